@@ -1,0 +1,4 @@
+pub mod Unless
+pub mod Lent
+pub mod Rows
+pub mod Orders

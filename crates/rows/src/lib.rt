@@ -1,0 +1,16 @@
+// Rows, spans and orders, what an order does to rows, and why a deed is refused.
+ghost use Rattle.rows.specs.Laws.{Row-order-means-nothing};
+
+pub mod apply;
+mod numbers;
+pub mod order;
+pub mod refusal;
+pub mod row;
+pub mod span;
+
+// The order in which rows stand means nothing to what an order does and touches.
+pub fn row_order_means_nothing() -> u8
+    ensures { λ _. ⌜ Row-order-means-nothing ⌝ }
+{
+    0
+}
