@@ -1,0 +1,3 @@
+// Files and entries as bytes.
+mod seal;
+mod words;
