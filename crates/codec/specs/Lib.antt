@@ -1,2 +1,6 @@
+pub mod Every
 pub mod Words
 pub mod Seals
+pub mod Actions
+pub mod Entries
+pub mod EntryLaws
