@@ -1,8 +1,11 @@
 -- Refusals by number and place.
 use Prim.Native.Nat.{ℕ, _+_, _^_}
 use mathlib.Core.Bool.{Bool, false}
+use mathlib.Core.List.{List, _++_}
+use lib.Chars.{codes}
 use lib.Dec.{eqb}
 use Rattle.std.specs.Orderings.{When}
+use Rattle.std.specs.Written.{decimal}
 use Rattle.std.specs.declared.result.Result.{Result}
 use Rattle.std.specs.declared.result.Result.the-variants.{Ok, Err}
 use Rattle.rows.specs.declared.refusal.Refusal.{Refusal}
@@ -33,6 +36,10 @@ place-of LogFull = 65536
 place-of (DamagedFile n) = n
 place-of (DamagedEntry k) = 2 ^ 32 + k
 place-of OutOfMemory = 0
+
+-- the line that tells of a refusal
+abbrev pub text-of : Refusal → List ℕ
+text-of e = codes "refused " ++ (decimal (number-of e) ++ (codes " at " ++ decimal (place-of e)))
 
 -- whether memory ran out
 abbrev pub ran-out : {A : Type 0} → Result A Refusal → Bool
