@@ -8,11 +8,8 @@ use lib.ListN.{length, getD}
 use Rattle.std.specs.declared.result.Result.{Result}
 use Rattle.std.specs.declared.result.Result.the-variants.{Ok, Err}
 use Rattle.rows.specs.declared.refusal.Refusal.{Refusal}
-use Rattle.rows.specs.declared.refusal.Refusal.the-variants.{HorizonTooLarge, NoSuchOrder}
-use Rattle.rows.specs.Refusals.{text-of}
-
-abbrev pub most-horizon : ℕ
-most-horizon = 4096
+use Rattle.rows.specs.declared.refusal.Refusal.the-variants.{NoSuchOrder}
+use Rattle.rows.specs.Refusals.{horizon-from, text-of}
 
 -- the number in the first four bytes, low byte first
 abbrev pub first-number : List ℕ → ℕ
@@ -20,7 +17,7 @@ first-number xs = getD xs 0 0 + getD xs 1 0 * 256 + getD xs 2 0 * 65536 + getD x
 
 -- the horizon of a day; one that is cut short is no order at 0
 abbrev pub opened : List ℕ → Result ℕ Refusal
-opened xs = cond (leb 4 (length xs)) (cond (leb (first-number xs) most-horizon) (Ok (first-number xs)) (Err (HorizonTooLarge (first-number xs)))) (Err (NoSuchOrder 0))
+opened xs = cond (leb 4 (length xs)) (horizon-from (first-number xs)) (Err (NoSuchOrder 0))
 
 abbrev pub said-of : Result ℕ Refusal → List ℕ
 said-of (Ok h) = []

@@ -1,13 +1,13 @@
 -- Laws of spans.
-use mathlib.Core.Path.{_≡_, sym, _∙_}
-use mathlib.Core.Bool.{Bool, true}
+use mathlib.Core.Path.{_≡_}
+use mathlib.Core.Bool.{true}
 use mathlib.Core.Logic.{_⊎_, inl, inr}
 use Prim.Native.Nat.{ℕ, _≤_, _<_}
 use native.Mathlib.Omega.{arith}
-use Rattle.std.specs.Orderings.{Decides}
 use Rattle.std.proofs.shelf.Tests.{cases-lt}
 use Rattle.std.proofs.shelf.Ways.{tells}
 use Rattle.rows.specs.declared.span.Span.{Span}
+use Rattle.rows.specs.Laws.{Overlapping-is-sharing-a-key}
 use Rattle.rows.specs.Spans.{contains-key, overlap, Share-a-key}
 
 -- the larger of two first keys lies in both
@@ -24,5 +24,5 @@ shares-overlap a b s = go (s .0) (s .1) (s .2)
     go : (k : ℕ) → contains-key a k ≡ true → contains-key b k ≡ true → overlap a b ≡ true
     go k p q = grind (arith, tells)
 
-pub overlap-decides : (a b : Span) (r : Bool) → r ≡ overlap a b → Decides r (Share-a-key a b)
-overlap-decides a b r e = (λ t. overlap-shares a b (sym e ∙ t), λ s. e ∙ shares-overlap a b s)
+pub overlapping-is-sharing-a-key : Overlapping-is-sharing-a-key
+overlapping-is-sharing-a-key a b = (overlap-shares a b, shares-overlap a b)

@@ -1,9 +1,9 @@
 -- Refusals by number and place.
 use Prim.Native.Nat.{ℕ, _+_, _^_}
-use mathlib.Core.Bool.{Bool, false}
+use mathlib.Core.Bool.{Bool, false, cond}
 use mathlib.Core.List.{List, _++_}
 use lib.Chars.{codes}
-use lib.Dec.{eqb}
+use lib.Dec.{eqb, leb}
 use Rattle.std.specs.Orderings.{When}
 use Rattle.std.specs.Written.{decimal}
 use Rattle.std.specs.declared.result.Result.{Result}
@@ -49,3 +49,10 @@ ran-out (Err e) = eqb (number-of e) 13
 -- what is promised of an answer, unless memory ran out: that may come in the place of any answer
 abbrev pub Unless-out : {A : Type 0} → Result A Refusal → Type 0 → Type 0
 Unless-out r P = When (ran-out r) (Unit {0}) P
+
+abbrev pub most-horizon : ℕ
+most-horizon = 4096
+
+-- a number as a horizon, unless it is above the largest
+abbrev pub horizon-from : ℕ → Result ℕ Refusal
+horizon-from h = cond (leb h most-horizon) (Ok h) (Err (HorizonTooLarge h))

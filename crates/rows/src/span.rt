@@ -1,7 +1,6 @@
 // Spans of keys.
 ghost use mathlib.Core.Path.{_≡_};
-ghost use Rattle.std.specs.Orderings.{Decides};
-ghost use Rattle.rows.specs.Spans.{contains-key, no-keys, overlap, Share-a-key};
+ghost use Rattle.rows.specs.Spans.{contains-key, no-keys, overlap};
 
 // All keys from one to another, both counted in; none where the first is above the second.
 #[derive(Clone, Copy, PartialEq, Eq, Debug)]
@@ -25,8 +24,7 @@ impl Span {
 
     // Whether some key lies in both; never where one of them is empty.
     pub fn overlaps(self, other: Span) -> bool
-        ensures value { λ r. ⌜ r ≡ overlap self other ⌝ }
-        ensures shared { λ r. ⌜ Decides r (Share-a-key self other) ⌝ }
+        ensures { λ r. ⌜ r ≡ overlap self other ⌝ }
     {
         !self.is_empty() && !other.is_empty() && self.from <= other.to && other.from <= self.to
     }
