@@ -6,15 +6,15 @@ use Prim.Native.Nat.{ℕ, _+_, _-_, _*_, _≤_, _<_}
 use native.Mathlib.Omega.{arith}
 use lib.ListN.{length, getD, take, drop}
 use Rattle.std.proofs.shelf.Lists.{drop-more, drop-all, take-rest}
-use Rattle.std.proofs.shelf.Tests.{eq-eqb, cases-lt}
+use Rattle.std.proofs.shelf.Tests.{cases-lt}
 use Rattle.std.proofs.shelf.Ways.{tells}
 use Rattle.std.specs.declared.result.Result.{Result}
 use Rattle.std.specs.declared.result.Result.the-variants.{Ok, Err}
 use Rattle.rows.specs.declared.refusal.Refusal.{Refusal}
 use Rattle.rows.specs.declared.row.Row.{Row}
-use Rattle.rows.specs.Checks.{and-then}
+use Rattle.rows.specs.Checks.{some-else, and-then}
 use Rattle.std.specs.declared.option.Option.the-variants.{Some}
-use Rattle.rows.specs.Numbers.{most-inserted, below-at, row-from, rows-from, insert-of, insert-from}
+use Rattle.rows.specs.Numbers.{fault, insert-count, row-from, rows-from, insert-of, insert-from}
 
 pub and-then-same : {A B E : Type 0} (r : Result A E) (f g : A → Result B E) → ((a : A) → f a ≡ g a) → and-then r f ≡ and-then r g
 and-then-same (Ok a) f g e = e a
@@ -68,5 +68,5 @@ module _ {B : Type 0} (xs : List ℕ) (i : ℕ) (F : List Row → B) where
   pub rows-all : length xs ≤ 2 * i → and-then (rows-left xs i) (λ rs. Ok (F rs)) ≡ Ok (F [])
   rows-all h = ap (λ z. and-then (rows-from (2 + 2 * i) z) (λ rs. Ok (F rs))) (drop-all (2 * i) xs h)
 
-pub insert-is : (xs : List ℕ) (count : ℕ) → Some count ≡ below-at (1 + most-inserted) xs 1 → length xs ≡ 2 + 2 * count → insert-of (take (length xs - 2) (drop 2 xs)) ≡ insert-from xs
-insert-is xs count e l = let t = eq-eqb (length xs) (2 + 2 * count) l in ap insert-of (take-rest xs 2) ∙ cc
+pub insert-is : (xs : List ℕ) (count : ℕ) → Some count ≡ insert-count xs → insert-of (take (length xs - 2) (drop 2 xs)) ≡ insert-from xs
+insert-is xs count e = ap insert-of (take-rest xs 2) ∙ ap (λ o. some-else o (fault 1) (λ _. insert-of (drop 2 xs))) e

@@ -1,4 +1,5 @@
 pub mod Unless
 pub mod Lent
+pub mod Spans
 pub mod Rows
 pub mod Orders

@@ -19,7 +19,7 @@ use Rattle.rows.specs.declared.span.Span.{Span}
 use Rattle.rows.specs.Checks.{and-then}
 use Rattle.rows.specs.Laws.{Row-order-means-nothing}
 use Rattle.rows.specs.Orders.{Order, insert, erase, raise, pack, done-to, touched, passes-limit, Outcome, applied}
-use Rattle.rows.specs.Rows.{amount-limit, within, outside, raised, raise-row, many-within, Alike}
+use Rattle.rows.specs.Rows.{amount-limit, within, outside, raised, raised-row, many-within, Alike}
 use Rattle.rows.proofs.Rows.{alike-refl, alike-append, outside-alike, raised-alike, many-alike}
 
 -- an insert that has so many rows in, and what is left
@@ -43,7 +43,7 @@ unfolding done-to touched
 insert-applied (Ok rs) xs = let n = zero-add (length rs) in ap Ok (λ k. record { rows = xs ++ rs; touched = n k })
 insert-applied (Err e) xs = refl
 
-module _ (s : Span) (xs rows : List Row) (i count : ℕ) (end : length xs ≤ i) (many : count ≡ many-within s (take i xs)) where
+module _ (s : Span) (xs rows : List Row) (i count : ℕ) (end : length xs ≤ i) (many : count ≡ many-within s xs) where
   all : take i xs ≡ xs
   all = take-all i xs end
 
@@ -80,11 +80,8 @@ module _ (s : Span) (n : ℕ) (xs : List Row) (i : ℕ) (d : Row) (h : i < lengt
   limit-step : passes-limit s n (drop i xs) ≡ ((within s (getD xs i d) && leb amount-limit (getD xs i d .amount + n)) || passes-limit s n (drop (i + 1) xs))
   limit-step = at-drop-more (passes-limit s n) xs i d h
 
-  pub limit-more-in : (m : Row) → true ≡ within s (getD xs i d) → Some m ≡ raise-row n (getD xs i d) → passes-limit s n (drop (i + 1) xs) ≡ passes-limit s n (drop i xs)
-  limit-more-in m t e = let step = limit-step in grind (arith, tells)
+  pub limit-more : (r : Row) → Some r ≡ raised-row s n (getD xs i d) → passes-limit s n (drop (i + 1) xs) ≡ passes-limit s n (drop i xs)
+  limit-more r e = let step = limit-step in grind (arith, tells)
 
-  pub limit-more-out : false ≡ within s (getD xs i d) → passes-limit s n (drop (i + 1) xs) ≡ passes-limit s n (drop i xs)
-  limit-more-out t = let step = limit-step in grind (arith, tells)
-
-  pub limit-met : true ≡ within s (getD xs i d) → None ≡ raise-row n (getD xs i d) → passes-limit s n (drop i xs) ≡ true
-  limit-met t e = let step = limit-step in grind (arith, tells)
+  pub limit-met : None ≡ raised-row s n (getD xs i d) → passes-limit s n (drop i xs) ≡ true
+  limit-met e = let step = limit-step in grind (arith, tells)

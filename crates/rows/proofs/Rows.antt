@@ -16,7 +16,7 @@ use Rattle.std.proofs.shelf.Ways.{tells}
 use Rattle.std.specs.declared.option.Option.the-variants.{Some}
 use Rattle.rows.specs.declared.row.Row.{Row}
 use Rattle.rows.specs.declared.span.Span.{Span}
-use Rattle.rows.specs.Rows.{within, outside, more, raise-row, raise-within, raised, many-within, same-row, times, Alike}
+use Rattle.rows.specs.Rows.{within, outside, raised-row, raise-within, raised, many-within, same-row, times, Alike}
 
 -- lists that have each element as often have the same sum of whatever is counted of their elements
 module _ {A : Type 0} (same : A → A → Bool) (sound : (a b : A) → same a b ≡ true → a ≡ b) (self : (a : A) → same a a ≡ true) where
@@ -181,13 +181,9 @@ module _ (s : Span) (xs : List Row) (i : ℕ) (d : Row) (h : i < length xs) wher
   unfolding many-within
   many-more-out t = countBy-more-no (within s) xs i d h (sym t)
 
-  pub raised-more-in : (n : ℕ) (m : Row) → true ≡ within s (getD xs i d) → Some m ≡ raise-row n (getD xs i d) → raised s n (take (i + 1) xs) ≡ raised s n (take i xs) ++ m ∷ []
+  pub raised-more : (n : ℕ) (r : Row) → Some r ≡ raised-row s n (getD xs i d) → raised s n (take (i + 1) xs) ≡ raised s n (take i xs) ++ r ∷ []
   unfolding raised
-  raised-more-in n m t e =
+  raised-more n r e =
       let x = getD xs i d in
-      let same : raise-within s n (getD xs i d) ≡ m = grind (arith, tells) in
-      map-more (raise-within s n) xs i d h ∙ ap (λ r. raised s n (take i xs) ++ r ∷ []) same
-
-  pub raised-more-out : (n : ℕ) → false ≡ within s (getD xs i d) → raised s n (take (i + 1) xs) ≡ raised s n (take i xs) ++ getD xs i d ∷ []
-  unfolding raised
-  raised-more-out n t = map-more (raise-within s n) xs i d h ∙ ap (λ b. raised s n (take i xs) ++ cond b (more n (getD xs i d)) (getD xs i d) ∷ []) (sym t)
+      let same : raise-within s n (getD xs i d) ≡ r = grind (arith, tells) in
+      map-more (raise-within s n) xs i d h ∙ ap (λ y. raised s n (take i xs) ++ y ∷ []) same

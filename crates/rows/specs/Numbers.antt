@@ -63,9 +63,12 @@ ends-at n xs o = cond (leb (length xs) n) (Ok o) (fault n)
 abbrev pub insert-of : List ℕ → Result Order Refusal
 insert-of xs = and-then (lent-rows xs) (λ rs. Ok (insert rs))
 
+-- how many rows an insert says that it has, if it may have so many and has them
+abbrev pub insert-count : List ℕ → Option ℕ
+insert-count xs = some-else (below-at (1 + most-inserted) xs 1) None (λ n. cond (eqb (length xs) (2 + 2 * n)) (Some n) None)
+
 abbrev pub insert-from : List ℕ → Result Order Refusal
-insert-from xs =
-    some-else (below-at (1 + most-inserted) xs 1) (fault 1) (λ count. cond (eqb (length xs) (2 + 2 * count)) (insert-of (drop 2 xs)) (fault 1))
+insert-from xs = some-else (insert-count xs) (fault 1) (λ _. insert-of (drop 2 xs))
 
 abbrev pub span-from : List ℕ → Result Span Refusal
 span-from xs = some-else (below-at key-limit xs 1) (fault 1) (λ a. some-else (below-at key-limit xs 2) (fault 2) (λ b. Ok (record { from = a; to = b })))

@@ -1,8 +1,11 @@
 -- Refusals by number and place.
 use Prim.Native.Nat.{ℕ, _+_, _^_}
-use mathlib.Core.Bool.{Bool, false}
-use lib.Dec.{eqb}
+use mathlib.Core.Bool.{Bool, false, cond}
+use mathlib.Core.List.{List, _++_}
+use lib.Chars.{codes}
+use lib.Dec.{eqb, leb}
 use Rattle.std.specs.Orderings.{When}
+use Rattle.std.specs.Written.{decimal}
 use Rattle.std.specs.declared.result.Result.{Result}
 use Rattle.std.specs.declared.result.Result.the-variants.{Ok, Err}
 use Rattle.rows.specs.declared.refusal.Refusal.{Refusal}
@@ -34,6 +37,10 @@ place-of (DamagedFile n) = n
 place-of (DamagedEntry k) = 2 ^ 32 + k
 place-of OutOfMemory = 0
 
+-- the line that tells of a refusal
+abbrev pub text-of : Refusal → List ℕ
+text-of e = codes "refused " ++ (decimal (number-of e) ++ (codes " at " ++ decimal (place-of e)))
+
 -- whether memory ran out
 abbrev pub ran-out : {A : Type 0} → Result A Refusal → Bool
 ran-out (Ok x) = false
@@ -42,3 +49,10 @@ ran-out (Err e) = eqb (number-of e) 13
 -- what is promised of an answer, unless memory ran out: that may come in the place of any answer
 abbrev pub Unless-out : {A : Type 0} → Result A Refusal → Type 0 → Type 0
 Unless-out r P = When (ran-out r) (Unit {0}) P
+
+abbrev pub most-horizon : ℕ
+most-horizon = 4096
+
+-- a number as a horizon, unless it is above the largest
+abbrev pub horizon-from : ℕ → Result ℕ Refusal
+horizon-from h = cond (leb h most-horizon) (Ok h) (Err (HorizonTooLarge h))

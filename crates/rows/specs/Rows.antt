@@ -27,6 +27,10 @@ more n r = record { key = r .key; amount = r .amount + n }
 abbrev pub raise-row : ℕ → Row → Option Row
 raise-row n r = cond (ltb (r .amount + n) amount-limit) (Some (more n r)) None
 
+-- a row as a raise leaves it, if that can be
+abbrev pub raised-row : Span → ℕ → Row → Option Row
+raised-row s n r = cond (within s r) (raise-row n r) (Some r)
+
 abbrev pub raise-within : Span → ℕ → Row → Row
 raise-within s n r = cond (within s r) (more n r) r
 

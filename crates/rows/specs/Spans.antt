@@ -1,6 +1,7 @@
 -- Which keys a span has.
 use Prim.Native.Nat.{ℕ}
-use mathlib.Core.Bool.{Bool, _&&_, not}
+use mathlib.Core.Path.{_≡_}
+use mathlib.Core.Bool.{Bool, true, _&&_, not}
 use lib.Dec.{leb, ltb}
 use Rattle.rows.specs.declared.span.Span.{Span}
 
@@ -12,3 +13,7 @@ no-keys s = ltb (s .to) (s .from)
 
 abbrev pub overlap : Span → Span → Bool
 overlap a b = not (no-keys a) && (not (no-keys b) && (leb (a .from) (b .to) && leb (b .from) (a .to)))
+
+-- what overlapping means: some key lies in both
+abbrev pub Share-a-key : Span → Span → Type 0
+Share-a-key a b = (k : ℕ) × (contains-key a k ≡ true) × (contains-key b k ≡ true)

@@ -2,6 +2,7 @@
 ghost use mathlib.Core.Path.{_≡_};
 ghost use Rattle.rows.specs.Checks.{and-then};
 ghost use Rattle.rows.specs.Refusals.{Unless-out};
+ghost use Rattle.rows.specs.Rows.{many-within, raised-row};
 ghost use Rattle.rows.specs.Orders.{erase, raise, pack, applied};
 ghost use Rattle.rows.specs.Numbers.{insert-of, order-of, outcome};
 use crate::numbers::row_from;
@@ -35,41 +36,59 @@ fn inserted(heap: Global, rows: &[Row], lent: &[u64]) -> Result<Applied, Refusal
     })
 }
 
+// How many rows have a key in the span.
+fn count_within(rows: &[Row], span: Span) -> u64
+    ensures { λ r. ⌜ r ≡ many-within span (now (rows .entry)) ⌝ }
+{
+    let mut count = 0;
+    for row in rows {
+        if span.contains(row.key) {
+            count += 1;
+        }
+    }
+    count
+}
+
 fn erased(heap: Global, rows: &[Row], span: Span) -> Result<Applied, Refusal>
     ensures { λ r. ⌜ Unless-out r (outcome r ≡ applied (erase span) (now (rows .entry))) ⌝ }
 {
     let mut rest = Vec::new(heap);
-    let mut touched = 0;
     for row in rows {
-        if span.contains(row.key) {
-            touched += 1;
-        } else {
+        if !span.contains(row.key) {
             rest.push(*row)?;
         }
     }
     Ok(Applied {
         rows: rest,
-        touched,
+        touched: count_within(rows, span),
     })
+}
+
+// A row as a raise leaves it; none where its amount would come to 2^40 or more.
+fn raised_row(row: Row, span: Span, by: u32) -> Option<Row>
+    ensures { λ r. ⌜ r ≡ raised-row span by row ⌝ }
+{
+    if span.contains(row.key) {
+        row.raise(by)
+    } else {
+        Some(row)
+    }
 }
 
 fn raised(heap: Global, rows: &[Row], span: Span, by: u32) -> Result<Applied, Refusal>
     ensures { λ r. ⌜ Unless-out r (outcome r ≡ applied (raise span by) (now (rows .entry))) ⌝ }
 {
     let mut all = Vec::new(heap);
-    let mut touched = 0;
     for row in rows {
-        if span.contains(row.key) {
-            let Some(more) = row.raise(by) else {
-                return Err(Refusal::TooLarge(0));
-            };
-            all.push(more)?;
-            touched += 1;
-        } else {
-            all.push(*row)?;
-        }
+        let Some(changed) = raised_row(*row, span, by) else {
+            return Err(Refusal::TooLarge(0));
+        };
+        all.push(changed)?;
     }
-    Ok(Applied { rows: all, touched })
+    Ok(Applied {
+        rows: all,
+        touched: count_within(rows, span),
+    })
 }
 
 fn unchanged(heap: Global, rows: &[Row], most: u64) -> Result<Applied, Refusal>

@@ -4,7 +4,7 @@ ghost use Prim.Native.Nat.{_<_};
 ghost use lib.ListN.{length};
 ghost use Rattle.std.specs.declared.result.Result.the-variants.{Ok};
 ghost use Rattle.rows.specs.Checks.{and-then};
-ghost use Rattle.rows.specs.Numbers.{key-limit, number-at, below-at, row-from, lent-rows, insert-from, span-from, erase-from, raise-from, pack-from, order-of};
+ghost use Rattle.rows.specs.Numbers.{key-limit, number-at, below-at, row-from, lent-rows, insert-count, insert-from, span-from, erase-from, raise-from, pack-from, order-of};
 use crate::order::Order;
 use crate::refusal::Refusal;
 use crate::row::AMOUNT_LIMIT;
@@ -75,15 +75,25 @@ pub(crate) fn count_rows(lent: &[u64]) -> Result<usize, Refusal>
     Ok(count)
 }
 
+// How many rows an insert says that it has, if it may have so many and has them.
+pub(crate) fn insert_count(numbers: &[u64]) -> Option<u64>
+    ensures { λ r. ⌜ r ≡ insert-count (now (numbers .entry)) ⌝ }
+{
+    let Some(count) = below_at(numbers, 1, 1 + MOST_INSERTED) else {
+        return None;
+    };
+    if numbers.len() as u64 != 2 + 2 * count {
+        return None;
+    }
+    Some(count)
+}
+
 pub(crate) fn insert_from(numbers: &[u64]) -> Result<Order<'_>, Refusal>
     ensures { λ r. ⌜ and-then r order-of ≡ insert-from (now (numbers .entry)) ⌝ }
 {
-    let Some(count) = below_at(numbers, 1, 1 + MOST_INSERTED) else {
+    let Some(_) = insert_count(numbers) else {
         return Err(Refusal::NoSuchOrder(1));
     };
-    if numbers.len() as u64 != 2 + 2 * count {
-        return Err(Refusal::NoSuchOrder(1));
-    }
     let lent = &numbers[2..];
     count_rows(lent)?;
     Ok(Order::Insert(lent))

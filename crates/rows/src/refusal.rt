@@ -1,9 +1,11 @@
 // Why a deed is refused. A refusal has a number, and a place that says more.
 ghost use mathlib.Core.Path.{_≡_};
-ghost use Rattle.rows.specs.Refusals.{number-of, place-of};
+ghost use Rattle.rows.specs.Refusals.{number-of, place-of, text-of};
+ghost use Rattle.std.specs.declared.option.Option.the-variants.{Some};
 ghost use Rattle.rows.specs.declared.refusal.Refusal.the-variants.{OutOfMemory};
 use std::alloc::AllocError;
 use std::alloc::Refused;
+use std::fmt;
 
 // Entries count from 2^32 on, so that their places are told apart from the numbers of files.
 const ENTRY_PLACES: u64 = 4294967296;
@@ -68,6 +70,16 @@ impl Refusal {
             Refusal::DamagedEntry(place) => ENTRY_PLACES + place as u64,
             Refusal::OutOfMemory => 0,
         }
+    }
+}
+
+pub impl fmt::Display for Refusal as RefusalDisplay {
+    ghost shown = { λ refusal. Some (text-of refusal) };
+
+    fn fmt<W: fmt::Write>(&self, f: &mut fmt::Formatter<W>) -> fmt::Result {
+        let number = self.number();
+        let place = self.place();
+        write!(f, "refused {number} at {place}")
     }
 }
 

@@ -22,9 +22,9 @@ impl Span {
         self.from > self.to
     }
 
-    // Whether some key lies in both.
+    // Whether some key lies in both; never where one of them is empty.
     pub fn overlaps(self, other: Span) -> bool
-        ensures value { λ r. ⌜ r ≡ overlap self other ⌝ }
+        ensures { λ r. ⌜ r ≡ overlap self other ⌝ }
     {
         !self.is_empty() && !other.is_empty() && self.from <= other.to && other.from <= self.to
     }

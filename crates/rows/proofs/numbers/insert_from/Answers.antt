@@ -1,6 +1,5 @@
 use mathlib.Core.Path.{sym, _∙_}
 use Prim.Native.Nat.{_-_}
-use native.Mathlib.Omega.{arith}
 use lib.ListN.{length, take, drop}
 use Rattle.std.proofs.shelf.Results.{err-from-errBy}
 use Rattle.rows.specs.Numbers.{lent-rows}
@@ -12,7 +11,7 @@ pub returns-in-Break-count-rows : need.returns-in-Break-count-rows
 returns-in-Break-count-rows c =
     let p = err-from-errBy (c .from-residual .result) (c .from-residual .ensures .1) in
     let xs = c .args .numbers .now in
-    rw (p .1, p .2) (error-hands-on (lent-rows (take (length (c .args .numbers .now) - 2) (drop 2 (c .args .numbers .now)))) length insert _ (c .in-Break-count-rows .ensures tt) ∙ insert-is xs (c .in-Some .count) (c .in-Some .ensures tt) (omega arith))
+    rw (p .1, p .2) (error-hands-on (lent-rows (take (length (c .args .numbers .now) - 2) (drop 2 (c .args .numbers .now)))) length insert _ (c .in-Break-count-rows .ensures tt) ∙ insert-is xs _ (c .in-Some .ensures tt))
 
 pub returns : need.returns
-returns c = insert-is (c .args .numbers .now) (c .in-Some .count) (c .in-Some .ensures tt) (omega arith)
+returns c = insert-is (c .args .numbers .now) _ (c .in-Some .ensures tt)

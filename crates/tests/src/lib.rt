@@ -1,0 +1,9 @@
+// Tests of the libraries, on examples.
+#[cfg(test)]
+mod applying;
+#[cfg(test)]
+mod opening;
+#[cfg(test)]
+mod orders;
+#[cfg(test)]
+mod spans;
