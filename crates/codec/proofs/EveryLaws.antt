@@ -6,7 +6,7 @@ use mathlib.Core.List.{List, [], _∷_}
 use native.Mathlib.Omega.{arith}
 use lib.ListN.{length, drop, getD}
 use Rattle.std.proofs.shelf.Lists.{at-drop-more, at-drop-all}
-use Rattle.std.proofs.shelf.Tests.{and-from}
+use Rattle.std.proofs.shelf.Tests.{and-parts, and-from}
 use Rattle.std.specs.Options.{mapped}
 use Rattle.std.specs.declared.option.Option.{Option}
 use Rattle.std.specs.declared.option.Option.the-variants.{Some, None}
@@ -16,6 +16,11 @@ use Rattle.codec.specs.Every.{every}
 pub every-from-getD : {A : Type 0} (p : A → Bool) (xs : List A) (d : A) → ((i : ℕ) → i < length xs → p (getD xs i d) ≡ true) → every p xs ≡ true
 every-from-getD p [] d h = refl
 every-from-getD p (x ∷ xs) d h = and-from (p x) (every p xs) (h 0 (omega arith)) (every-from-getD p xs d (λ i l. h (suc i) (omega arith)))
+
+pub every-at : {A : Type 0} (p : A → Bool) (xs : List A) (i : ℕ) (d : A) → every p xs ≡ true → i < length xs → p (getD xs i d) ≡ true
+every-at p [] i d e h = absurd (omega arith)
+every-at p (x ∷ xs) zero d e h = and-parts (p x) (every p xs) e .0
+every-at p (x ∷ xs) (suc i) d e h = every-at p xs i d (and-parts (p x) (every p xs) e .1) (omega arith)
 
 -- a loop over a list, one element on and at the end
 module _ {A : Type 0} (p : A → Bool) (xs : List A) (i : ℕ) where

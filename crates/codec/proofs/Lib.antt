@@ -5,3 +5,5 @@ pub mod ActionLaws
 pub mod EntryFiles
 pub mod EntryLaws
 pub mod EntryWrites
+pub mod FileReads
+pub mod FileLaws

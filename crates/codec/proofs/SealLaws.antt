@@ -45,12 +45,12 @@ module _ (xs : List ℕ) where
   unsealed-done g p h = rw (eq-eqb (length xs % 8) 0 g, lt-ltb 0 (length xs) p, eq-eqb (getD (words-of xs) last 0) (sum (take last (words-of xs)) % 2 ^ 64) h)
 
 -- what bytes are from which numbers were unsealed
-record Sealing (xs ws : List ℕ) : Type 0 where
-  whole : 8 * length ws + 8 ≡ length xs
-  front : ws ≡ take (length ws) (words-of xs)
-  last-is : getD (words-of xs) (length ws) 0 ≡ sum ws % 2 ^ 64
+pub record Sealing (xs ws : List ℕ) : Type 0 where
+  pub whole : 8 * length ws + 8 ≡ length xs
+  pub front : ws ≡ take (length ws) (words-of xs)
+  pub last-is : getD (words-of xs) (length ws) 0 ≡ sum ws % 2 ^ 64
 
-sealing : (xs ws : List ℕ) → unsealed xs ≡ Some ws → Sealing xs ws
+pub sealing : (xs ws : List ℕ) → unsealed xs ≡ Some ws → Sealing xs ws
 unfolding unsealed
 sealing xs ws e =
     let p = cond-some _ (take (length xs / 8 - 1) (words-of xs)) ws e in

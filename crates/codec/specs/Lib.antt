@@ -4,3 +4,5 @@ pub mod Seals
 pub mod Actions
 pub mod Entries
 pub mod EntryLaws
+pub mod Files
+pub mod FileLaws
