@@ -7,3 +7,5 @@ pub mod EntryLaws
 pub mod EntryWrites
 pub mod FileReads
 pub mod FileLaws
+pub mod KeyLaws
+pub mod LentFiles

@@ -6,3 +6,5 @@ pub mod Entries
 pub mod EntryLaws
 pub mod Files
 pub mod FileLaws
+pub mod Keys
+pub mod Writes

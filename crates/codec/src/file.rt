@@ -59,7 +59,7 @@ fn head_at(bytes: &[u8], n: usize) -> Option<Head>
     head_from(n, word_at(bytes, 0), word_at(bytes, 1), word_at(bytes, 2))
 }
 
-fn row_of(key: u64, amount: u64) -> Option<Row>
+pub(crate) fn row_of(key: u64, amount: u64) -> Option<Row>
     ensures { λ r. ⌜ r ≡ row-of key amount ⌝ }
 {
     if key >= KEY_LIMIT {

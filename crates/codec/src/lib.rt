@@ -7,6 +7,7 @@ pub mod entry;
 pub mod file;
 mod seal;
 mod words;
+pub mod write;
 
 // What is written of an entry in its bounds reads as that entry.
 pub fn entries_come_back() -> u8
