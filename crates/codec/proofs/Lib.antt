@@ -9,3 +9,8 @@ pub mod FileReads
 pub mod FileLaws
 pub mod KeyLaws
 pub mod LentFiles
+pub mod RewriteLaws
+pub mod SourceLaws
+pub mod PartLaws
+pub mod RowWrites
+pub mod SourceWrites

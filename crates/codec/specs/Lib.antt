@@ -8,3 +8,4 @@ pub mod Files
 pub mod FileLaws
 pub mod Keys
 pub mod Writes
+pub mod Rewrites

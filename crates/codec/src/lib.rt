@@ -5,6 +5,7 @@ ghost use Rattle.codec.specs.FileLaws.{Files-come-back, Files-are-one, Rows-ar
 pub mod action;
 pub mod entry;
 pub mod file;
+pub mod rewrite;
 mod seal;
 mod words;
 pub mod write;

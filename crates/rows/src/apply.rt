@@ -2,7 +2,7 @@
 ghost use mathlib.Core.Path.{_≡_};
 ghost use Rattle.rows.specs.Checks.{and-then};
 ghost use Rattle.rows.specs.Refusals.{Unless-out};
-ghost use Rattle.rows.specs.Rows.{many-within, raised-row};
+ghost use Rattle.rows.specs.Rows.{many-within};
 ghost use Rattle.rows.specs.Orders.{erase, raise, pack, applied};
 ghost use Rattle.rows.specs.Numbers.{insert-of, order-of, outcome};
 use crate::numbers::row_from;
@@ -64,23 +64,12 @@ fn erased(heap: Global, rows: &[Row], span: Span) -> Result<Applied, Refusal>
     })
 }
 
-// A row as a raise leaves it; none where its amount would come to 2^40 or more.
-fn raised_row(row: Row, span: Span, by: u32) -> Option<Row>
-    ensures { λ r. ⌜ r ≡ raised-row span by row ⌝ }
-{
-    if span.contains(row.key) {
-        row.raise(by)
-    } else {
-        Some(row)
-    }
-}
-
 fn raised(heap: Global, rows: &[Row], span: Span, by: u32) -> Result<Applied, Refusal>
     ensures { λ r. ⌜ Unless-out r (outcome r ≡ applied (raise span by) (now (rows .entry))) ⌝ }
 {
     let mut all = Vec::new(heap);
     for row in rows {
-        let Some(changed) = raised_row(*row, span, by) else {
+        let Some(changed) = row.raise_within(span, by) else {
             return Err(Refusal::TooLarge(0));
         };
         all.push(changed)?;

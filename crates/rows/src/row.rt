@@ -1,6 +1,7 @@
 // One row.
 ghost use mathlib.Core.Path.{_≡_};
-ghost use Rattle.rows.specs.Rows.{raise-row};
+ghost use Rattle.rows.specs.Rows.{raise-row, raised-row};
+use crate::span::Span;
 
 // Amounts stay below 2^40.
 pub const AMOUNT_LIMIT: u64 = 1099511627776;
@@ -24,5 +25,16 @@ impl Row {
             key: self.key,
             amount: self.amount + by as u64,
         })
+    }
+
+    // The row as a raise of a span leaves it.
+    pub fn raise_within(self, span: Span, by: u32) -> Option<Row>
+        ensures { λ r. ⌜ r ≡ raised-row span by self ⌝ }
+    {
+        if span.contains(self.key) {
+            self.raise(by)
+        } else {
+            Some(self)
+        }
     }
 }
