@@ -2,7 +2,7 @@
 use Prim.Native.Nat.{ℕ, zero, suc, _+_, _≤_, _<_}
 use mathlib.Core.Path.{_≡_, refl, sym, _∙_, ap}
 use mathlib.Core.Bool.{Bool, true, false, cond, _&&_}
-use mathlib.Core.List.{List, [], _∷_}
+use mathlib.Core.List.{List, [], _∷_, _++_}
 use native.Mathlib.Omega.{arith}
 use lib.ListN.{length, drop, getD}
 use Rattle.std.proofs.shelf.Lists.{at-drop-more, at-drop-all}
@@ -21,6 +21,10 @@ pub every-at : {A : Type 0} (p : A → Bool) (xs : List A) (i : ℕ) (d : A) →
 every-at p [] i d e h = absurd (omega arith)
 every-at p (x ∷ xs) zero d e h = and-parts (p x) (every p xs) e .0
 every-at p (x ∷ xs) (suc i) d e h = every-at p xs i d (and-parts (p x) (every p xs) e .1) (omega arith)
+
+pub every-append : {A : Type 0} (p : A → Bool) (xs ys : List A) → every p xs ≡ true → every p ys ≡ true → every p (xs ++ ys) ≡ true
+every-append p [] ys a b = b
+every-append p (x ∷ xs) ys a b = let q = and-parts (p x) (every p xs) a in and-from (p x) (every p (xs ++ ys)) (q .0) (every-append p xs ys (q .1) b)
 
 -- a loop over a list, one element on and at the end
 module _ {A : Type 0} (p : A → Bool) (xs : List A) (i : ℕ) where

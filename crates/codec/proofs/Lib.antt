@@ -14,3 +14,4 @@ pub mod SourceLaws
 pub mod PartLaws
 pub mod RowWrites
 pub mod SourceWrites
+pub mod RewriteDone

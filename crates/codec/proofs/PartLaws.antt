@@ -64,12 +64,12 @@ part-put a k p ys xs zs h l e =
     let m : length (drop a xs) ≡ length xs - a = length-drop a xs in
     let front : take p (take k (drop a xs)) ≡ take p (drop a xs) = take-take p k D (omega arith) in
     let back : drop (p + length ys) (take k (drop a xs)) ++ drop k (drop a xs) ≡ drop (p + length ys) (drop a xs) =
-        sym (drop-append-le (p + length ys) (take k D) (drop k D) (omega (arith, length-take-le k D (omega (arith, m))))) ∙ ap (drop (p + length ys)) (take-append-drop k D) in
+    sym (drop-append-le (p + length ys) (take k D) (drop k D) (omega (arith, length-take-le k D (omega (arith, m))))) ∙ ap (drop (p + length ys)) (take-append-drop k D) in
     let whole : zs ++ drop k (drop a xs) ≡ take p (drop a xs) ++ (ys ++ drop (p + length ys) (drop a xs)) =
-        ap (λ l. l ++ drop k D) e ∙ append-assoc (take p (take k D)) (ys ++ drop (p + length ys) (take k D)) (drop k D)
-        ∙ ap (λ l. l ++ ((ys ++ drop (p + length ys) (take k D)) ++ drop k D)) front
-        ∙ ap (λ l. take p D ++ l) (append-assoc ys (drop (p + length ys) (take k D)) (drop k D))
-        ∙ ap (λ l. take p D ++ (ys ++ l)) back in
+    ap (λ l. l ++ drop k D) e ∙ append-assoc (take p (take k D)) (ys ++ drop (p + length ys) (take k D)) (drop k D)
+    ∙ ap (λ l. l ++ ((ys ++ drop (p + length ys) (take k D)) ++ drop k D)) front
+    ∙ ap (λ l. take p D ++ l) (append-assoc ys (drop (p + length ys) (take k D)) (drop k D))
+    ∙ ap (λ l. take p D ++ (ys ++ l)) back in
     let start : take (a + p) xs ≡ take a xs ++ take p (drop a xs) = take-add a p xs in
     let end : drop (p + length ys) (drop a xs) ≡ drop (a + p + length ys) xs = drop-drop (p + length ys) a xs ∙ ap (λ j. drop j xs) (omega arith) in
     ap (λ l. take a xs ++ l) whole

@@ -123,8 +123,7 @@ module _ (w : Rewrite) (B : List ℕ) (p t : Part) (k : ℕ) (s : Span) (inside 
 
         pub put-goes : (cur′ : List ℕ) (n′ : ℕ) (keys′ : Span) → staying (fate-of w r) ≡ [] → cur′ ≡ cur → n′ ≡ n → keys′ ≡ keys → So-far w B p t k s (i + 1) cur′ n′ keys′
         put-goes cur′ n′ keys′ f a c d =
-            let same : done (i + 1) ≡ done i = more ∙ ap (λ l. done i ++ l) f ∙ append-nil (done i) in
-            (
+            let same : done (i + 1) ≡ done i = more ∙ ap (λ l. done i ++ l) f ∙ append-nil (done i) in (
               a ∙ inv .0 ∙ ap (λ rs. put-at (t .start + 8 * (3 + 2 * k)) (bytes-of (row-words rs)) B) (sym same),
               c ∙ inv .1 ∙ ap (λ rs. k + length rs) (sym same),
               d ∙ inv .2 ∙ ap (widened-by s) (sym same),
@@ -146,10 +145,9 @@ module _ (w : Rewrite) (B : List ℕ) (p t : Part) (k : ℕ) (s : Span) (inside 
               → So-far w B p t k s (i + 1) cur′ n′ keys′
           put-stays cur′ n′ keys′ a b c d =
               let two = bytes-of (x .key ∷ x .amount ∷ []) in
-              let words : row-words (done (i + 1)) ≡ row-words (done i) ++ (x .key ∷ x .amount ∷ []) = ap row-words longer ∙ row-words-append (done i) (x ∷ []) in
-              (
+              let words : row-words (done (i + 1)) ≡ row-words (done i) ++ (x .key ∷ x .amount ∷ []) = ap row-words longer ∙ row-words-append (done i) (x ∷ []) in (
                 put-on (t .start + 8 * (3 + 2 * k)) (t .start + 8 * (3 + 2 * n)) B cur cur′ (row-words (done i)) (x .key ∷ x .amount ∷ []) (omega (arith, inv .1, length-row-words (done i))) (omega arith) (inv .0) a
-                ∙ ap (λ l. put-at (t .start + 8 * (3 + 2 * k)) (bytes-of l) B) (sym words),
+                    ∙ ap (λ l. put-at (t .start + 8 * (3 + 2 * k)) (bytes-of l) B) (sym words),
                 omega (arith, inv .1, ap length longer, length-push (done i) x),
                 d ∙ ap (widened (x .key)) (inv .2) ∙ sym (widened-push s (done i) x) ∙ ap (widened-by s) (sym longer),
                 subst Are-words (sym words) (all-append (λ v. v < 2 ^ 64) (row-words (done i)) (x .key ∷ x .amount ∷ []) (inv .3) b),

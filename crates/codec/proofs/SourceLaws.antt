@@ -107,8 +107,7 @@ module _ (w : Rewrite) (xs : List ℕ) (t : Part) (ps : List Part) (i n : ℕ) (
 
       pub survey-more : (m : ℕ) → c ≤ 65536 - n → m ≡ n + c → Surveyed w xs t ps (i + 1) m
       survey-more m o k =
-          let p = survey-some w (is-source xs t (getD ps i d)) (rows-in (part-in (getD ps i d) xs)) c e in
-          (
+          let p = survey-some w (is-source xs t (getD ps i d)) (rows-in (part-in (getD ps i d) xs)) c e in (
             sym (every-more (is-source xs t) ps i d h (p .0)) ∙ inv .0,
             ap (λ b. b || refuses w (source-rows xs (drop (i + 1) ps))) (sym (p .1)) ∙ sym refuses-left ∙ inv .1,
             omega (arith, many-left, p .2, inv .2),

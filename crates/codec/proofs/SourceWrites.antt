@@ -86,7 +86,7 @@ module _ (w : Rewrite) (B : List ℕ) (t : Part) (ps : List Part) (inside : t .s
   part-of-all : (i : ℕ) → length (rewritten w (source-rows B (take i ps))) ≤ length (rewritten w (source-rows B ps))
   part-of-all i =
       let all : rewritten w (source-rows B ps) ≡ rewritten w (source-rows B (take i ps)) ++ rewritten w (source-rows B (drop i ps)) =
-          ap (λ l. rewritten w (source-rows B l)) (sym (take-append-drop i ps)) ∙ ap (rewritten w) (sources-append B (take i ps) (drop i ps)) ∙ rewritten-append w (source-rows B (take i ps)) (source-rows B (drop i ps)) in
+      ap (λ l. rewritten w (source-rows B l)) (sym (take-append-drop i ps)) ∙ ap (rewritten w) (sources-append B (take i ps) (drop i ps)) ∙ rewritten-append w (source-rows B (take i ps)) (source-rows B (drop i ps)) in
       omega (arith, ap length all, length-append (done i) (rewritten w (source-rows B (drop i ps))))
 
   module _ (i : ℕ) (cur : List ℕ) (n : ℕ) (keys : Span) (inv : All-so-far w B t ps i cur n keys) where
@@ -124,10 +124,9 @@ module _ (w : Rewrite) (B : List ℕ) (t : Part) (ps : List Part) (inside : t .s
           let was : rewritten w (rows-in (part-in (getD ps i d) cur)) ≡ rewritten w (rows-in (part-in (getD ps i d) B)) = ap (λ l. rewritten w (rows-in l)) part-as-was in
           let words : row-words (done (i + 1)) ≡ row-words (done i) ++ row-words new = ap row-words longer ∙ row-words-append (done i) new in
           let g : cur′ ≡ put-at (t .start + 24) (bytes-of (row-words (done i) ++ row-words new)) B =
-              put-on (t .start + 24) (t .start + 8 * (3 + 2 * n)) B cur cur′ (row-words (done i)) (row-words new) (omega (arith, inv .1, length-row-words (done i))) (omega arith) (inv .0)
-              (a ∙ ap (λ rs. put-at (t .start + 8 * (3 + 2 * n)) (bytes-of (row-words rs)) cur) was) in
-          let after : cur′ ≡ put-at (t .start + 24) (bytes-of (row-words (done (i + 1)))) B = g ∙ ap (λ l. put-at (t .start + 24) (bytes-of l) B) (sym words) in
-          (
+          put-on (t .start + 24) (t .start + 8 * (3 + 2 * n)) B cur cur′ (row-words (done i)) (row-words new) (omega (arith, inv .1, length-row-words (done i))) (omega arith) (inv .0)
+          (a ∙ ap (λ rs. put-at (t .start + 8 * (3 + 2 * n)) (bytes-of (row-words rs)) cur) was) in
+          let after : cur′ ≡ put-at (t .start + 24) (bytes-of (row-words (done (i + 1)))) B = g ∙ ap (λ l. put-at (t .start + 24) (bytes-of l) B) (sym words) in (
             after,
             omega (arith, b, inv .1, ap length was, ap length longer, length-append (done i) new),
             c ∙ ap (widened-by keys) was ∙ ap (λ k. widened-by k new) (inv .2) ∙ sym (keys-append (done i) new) ∙ ap keys-of (sym longer),

@@ -162,7 +162,13 @@ struct Progress {
 }
 
 // Writes the rows of one source that stay behind those that were written.
-fn put_rows(bytes: &mut [u8], source: Part, rewrite: Rewrite, target: Part, start: Progress) -> Progress
+fn put_rows(
+    bytes: &mut [u8],
+    source: Part,
+    rewrite: Rewrite,
+    target: Part,
+    start: Progress,
+) -> Progress
     requires inside { ⌜ target .start + target .length ≤ length (now bytes) ⌝ }
     requires valid { ⌜ is-source (now bytes) target source ≡ true ⌝ }
     requires room { ⌜ 8 * (4 + 2 * (start .count + length (rewritten rewrite (rows-in (part-in source (now bytes)))))) ≤ target .length ⌝ }
@@ -196,7 +202,10 @@ fn put_all(bytes: &mut [u8], sources: &[Part], rewrite: Rewrite, target: Part) -
     ensures keys { λ r. ⌜ r ≡ keys-of (rewritten rewrite (source-rows (now (bytes .entry)) (now (sources .entry)))) ⌝ }
     ensures fit { λ _. ⌜ Are-words (row-words (rewritten rewrite (source-rows (now (bytes .entry)) (now (sources .entry))))) ⌝ }
 {
-    let mut progress = Progress { count: 0, keys: NO_KEYS };
+    let mut progress = Progress {
+        count: 0,
+        keys: NO_KEYS,
+    };
     for i in 0..sources.len() {
         progress = put_rows(bytes, sources[i], rewrite, target, progress);
     }

@@ -14,13 +14,14 @@ returns-in-TooLarge c =
 
 pub loop-i-again : need.loop-i-again
 loop-i-again c =
-    elim (c .match-fate-of .came)
-    [ in-Stays w ↦
-        count-stays (c .args .rewrite) (c .args .bytes .now) (c .in-Some .head) (c .in-Some .ensures tt) (c .loop-i .i) (c .loop-i .count) (omega arith) (c .loop-i .inv)
-        (c .in-Some-row-at .row) (c .in-Some-row-at .ensures tt) _ (c .match-fate-of .count) (w .in-Stays .ensures tt) (w .count-is)
-    | in-Goes w ↦
-        count-goes (c .args .rewrite) (c .args .bytes .now) (c .in-Some .head) (c .in-Some .ensures tt) (c .loop-i .i) (c .loop-i .count) (omega arith) (c .loop-i .inv)
-        (c .in-Some-row-at .row) (c .in-Some-row-at .ensures tt) (c .match-fate-of .count) (w .in-Goes .ensures tt) (w .count-is) ]
+    elim (c .match-fate-of .came) [
+      | in-Stays w ↦
+          count-stays (c .args .rewrite) (c .args .bytes .now) (c .in-Some .head) (c .in-Some .ensures tt) (c .loop-i .i) (c .loop-i .count) (omega arith) (c .loop-i .inv)
+          (c .in-Some-row-at .row) (c .in-Some-row-at .ensures tt) _ (c .match-fate-of .count) (w .in-Stays .ensures tt) (w .count-is)
+      | in-Goes w ↦
+          count-goes (c .args .rewrite) (c .args .bytes .now) (c .in-Some .head) (c .in-Some .ensures tt) (c .loop-i .i) (c .loop-i .count) (omega arith) (c .loop-i .inv)
+          (c .in-Some-row-at .row) (c .in-Some-row-at .ensures tt) (c .match-fate-of .count) (w .in-Goes .ensures tt) (w .count-is)
+    ]
 
 pub returns : need.returns
 returns c = count-end (c .args .rewrite) (c .args .bytes .now) (c .in-Some .head) (c .loop-i .i) (c .loop-i .count) (c .in-Some .ensures tt) (omega arith) (c .loop-i .inv)

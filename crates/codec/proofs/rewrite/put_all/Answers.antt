@@ -31,7 +31,7 @@ loop-i-again c =
 pub returns : need.returns
 returns c =
     let all = all-end (c .args .rewrite) (c .args .bytes .now) (c .args .target) (c .args .sources .now) (c .pre .inside) (c .pre .valid) (c .pre .room)
-        (c .loop-i .i) (c .loop-i .bytes) (c .loop-i .progress .count) (c .loop-i .progress .keys) (c .loop-i .inv) (omega arith) in
+    (c .loop-i .i) (c .loop-i .bytes) (c .loop-i .progress .count) (c .loop-i .progress .keys) (c .loop-i .inv) (omega arith) in
     record {
       after = c .loop-i .inv .0 ∙ ap (λ rs. put-at (c .args .target .start + 24) (bytes-of (row-words rs)) (c .args .bytes .now)) all;
       keys = c .loop-i .inv .2 ∙ ap keys-of all;

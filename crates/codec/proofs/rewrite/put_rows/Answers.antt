@@ -42,24 +42,25 @@ put-in-part-requires c κs =
 
 pub loop-i-again : need.loop-i-again
 loop-i-again c =
-    elim (c .match-row-at .came)
-    [ in-Some·in-Stays w ↦
-        put-stays (c .args .rewrite) (c .args .bytes .now) (c .args .source) (c .args .target) (c .args .start .count) (c .args .start .keys) (c .pre .inside) (c .pre .valid) (c .pre .room)
-        (c .loop-i .i) (c .loop-i .bytes) (c .loop-i .count) (c .loop-i .keys) (c .loop-i .inv) (omega arith) (w .in-Some .row) (w .in-Some .ensures tt) (w .in-Stays .row) (w .in-Stays .ensures tt)
-        (c .match-row-at .bytes) (c .match-row-at .count) (c .match-row-at .keys) (w .bytes-is ∙ w .put-in-part .ensures .after) (w .put-in-part .ensures .fit) (w .count-is) (w .keys-is ∙ w .widened-keys .ensures)
-    | in-Some·in-rest-fate-of w ↦
-        put-goes (c .args .rewrite) (c .args .bytes .now) (c .args .source) (c .args .target) (c .args .start .count) (c .args .start .keys) (c .pre .inside) (c .pre .valid) (c .pre .room)
-        (c .loop-i .i) (c .loop-i .bytes) (c .loop-i .count) (c .loop-i .keys) (c .loop-i .inv) (omega arith) (w .in-Some .row) (w .in-Some .ensures tt)
-        (c .match-row-at .bytes) (c .match-row-at .count) (c .match-row-at .keys)
-        (ap staying (sym (w .fate-of .ensures)) ∙ not-staying (w .fate-of .result) (w .in-rest-fate-of .not-Stays)) (w .bytes-is) (w .count-is) (w .keys-is)
-    | in-rest w ↦
-        absurd (put-no-row (c .args .rewrite) (c .args .bytes .now) (c .args .source) (c .args .target) (c .args .start .count) (c .args .start .keys) (c .pre .inside) (c .pre .valid) (c .pre .room)
-        (c .loop-i .i) (c .loop-i .bytes) (c .loop-i .count) (c .loop-i .keys) (c .loop-i .inv) (omega arith) (w .in-rest .ensures tt)) ]
+    elim (c .match-row-at .came) [
+      | in-Some·in-Stays w ↦
+          put-stays (c .args .rewrite) (c .args .bytes .now) (c .args .source) (c .args .target) (c .args .start .count) (c .args .start .keys) (c .pre .inside) (c .pre .valid) (c .pre .room)
+          (c .loop-i .i) (c .loop-i .bytes) (c .loop-i .count) (c .loop-i .keys) (c .loop-i .inv) (omega arith) (w .in-Some .row) (w .in-Some .ensures tt) (w .in-Stays .row) (w .in-Stays .ensures tt)
+          (c .match-row-at .bytes) (c .match-row-at .count) (c .match-row-at .keys) (w .bytes-is ∙ w .put-in-part .ensures .after) (w .put-in-part .ensures .fit) (w .count-is) (w .keys-is ∙ w .widened-keys .ensures)
+      | in-Some·in-rest-fate-of w ↦
+          put-goes (c .args .rewrite) (c .args .bytes .now) (c .args .source) (c .args .target) (c .args .start .count) (c .args .start .keys) (c .pre .inside) (c .pre .valid) (c .pre .room)
+          (c .loop-i .i) (c .loop-i .bytes) (c .loop-i .count) (c .loop-i .keys) (c .loop-i .inv) (omega arith) (w .in-Some .row) (w .in-Some .ensures tt)
+          (c .match-row-at .bytes) (c .match-row-at .count) (c .match-row-at .keys)
+          (ap staying (sym (w .fate-of .ensures)) ∙ not-staying (w .fate-of .result) (w .in-rest-fate-of .not-Stays)) (w .bytes-is) (w .count-is) (w .keys-is)
+      | in-rest w ↦
+          absurd (put-no-row (c .args .rewrite) (c .args .bytes .now) (c .args .source) (c .args .target) (c .args .start .count) (c .args .start .keys) (c .pre .inside) (c .pre .valid) (c .pre .room)
+          (c .loop-i .i) (c .loop-i .bytes) (c .loop-i .count) (c .loop-i .keys) (c .loop-i .inv) (omega arith) (w .in-rest .ensures tt))
+    ]
 
 pub returns : need.returns
 returns c =
     let all = put-end (c .args .rewrite) (c .args .bytes .now) (c .args .source) (c .args .target) (c .args .start .count) (c .args .start .keys) (c .pre .inside) (c .pre .valid) (c .pre .room)
-        (c .loop-i .i) (c .loop-i .bytes) (c .loop-i .count) (c .loop-i .keys) (c .loop-i .inv) (omega arith) in
+    (c .loop-i .i) (c .loop-i .bytes) (c .loop-i .count) (c .loop-i .keys) (c .loop-i .inv) (omega arith) in
     record {
       after = c .loop-i .inv .0 ∙ ap (λ rs. put-at (c .args .target .start + 8 * (3 + 2 * c .args .start .count)) (bytes-of (row-words rs)) (c .args .bytes .now)) all;
       count = c .loop-i .inv .1 ∙ ap (λ rs. c .args .start .count + length rs) all;
