@@ -5,3 +5,4 @@ pub mod ActionLaws
 pub mod EntryFiles
 pub mod EntryLaws
 pub mod EntryWrites
+pub mod EntryReads

@@ -2,19 +2,32 @@
 ghost use mathlib.Core.Path.{_≡_};
 ghost use mathlib.Core.Bool.{true, cond};
 ghost use mathlib.Core.List.{[], _∷_, _++_};
-ghost use Prim.Native.Nat.{_+_, _*_, _≤_};
+ghost use Prim.Native.Nat.{_+_, _*_, _%_, _≤_};
 ghost use lib.ListN.{length};
+ghost use Rattle.std.specs.Of.Vec.{vec-items};
+ghost use Rattle.std.specs.Options.{mapped};
+ghost use Rattle.std.specs.Vec.{made};
 ghost use Rattle.std.specs.declared.option.Option.the-variants.{Some, None};
+ghost use Rattle.std.specs.declared.result.Result.the-variants.{Ok};
+ghost use Rattle.rows.specs.Refusals.{Unless-out};
 ghost use Rattle.codec.specs.Actions.{is-word, action-words, action-fits};
-ghost use Rattle.codec.specs.Words.{put-at, bytes-of};
-ghost use Rattle.codec.specs.Entries.{added-fits, files-writable, added-words, entry-of, entry-head, entry-words, writable, entry-length, entry-written};
+ghost use Rattle.codec.specs.Words.{put-at, bytes-of, words-of};
+ghost use Rattle.codec.specs.Entries.{added, added-fits, files-writable, added-words, adds-in, takes-in, change-of, change-from, entry-of, entry-head, entry-words, writable, entry-length, entry-written, entry-in, entry-read};
 use crate::action::Action;
+use crate::action::KEY_LIMIT;
+use crate::action::action_from;
 use crate::action::action_words;
 use crate::seal::put_seal;
+use crate::seal::unseal;
 use crate::words::put_words;
+use crate::words::word_at;
+use rows::refusal::Refusal;
+use rows::refusal::RefusalFromAlloc;
 use rows::span::Span;
 use rows::span::SpanDebug;
 use rows::span::SpanPartialEq;
+use std::alloc::AllocError;
+use std::alloc::Global;
 
 const WRITERS: u8 = 16;
 
@@ -183,4 +196,120 @@ pub fn write_entry(entry: &Entry, out: &mut [u8]) -> Option<usize>
     put_takes(out, 10 + 3 * change.adds.len(), change.takes.as_slice());
     put_seal(out, count);
     Some(8 * (count + 1))
+}
+
+// The added file that three numbers are.
+fn added_from(number: u64, from: u64, to: u64) -> Option<Added>
+    ensures { λ r. ⌜ r ≡ cond (added-fits (added number from to)) (Some (added number from to)) None ⌝ }
+{
+    if number >= KEY_LIMIT {
+        return None;
+    }
+    if to >= KEY_LIMIT {
+        return None;
+    }
+    if from > to {
+        return None;
+    }
+    Some(Added {
+        number: number as u32,
+        keys: Span {
+            from: from as u32,
+            to: to as u32,
+        },
+    })
+}
+
+fn read_adds(heap: Global, bytes: &[u8]) -> Result<Option<Vec<Added>>, AllocError>
+    requires { ⌜ length (now bytes) % 24 ≡ 0 ⌝ }
+    ensures { λ r. ⌜ made r (λ o. mapped vec-items o ≡ adds-in (words-of (now (bytes .entry)))) ⌝ }
+{
+    let mut adds = Vec::new(heap);
+    for i in 0..bytes.len() / 24 {
+        let number = word_at(bytes, 3 * i);
+        let from = word_at(bytes, 3 * i + 1);
+        let to = word_at(bytes, 3 * i + 2);
+        let Some(added) = added_from(number, from, to) else {
+            return Ok(None);
+        };
+        adds.push(added)?;
+    }
+    Ok(Some(adds))
+}
+
+fn read_takes(heap: Global, bytes: &[u8]) -> Result<Option<Vec<u32>>, AllocError>
+    ensures { λ r. ⌜ made r (λ o. mapped vec-items o ≡ takes-in (words-of (now (bytes .entry)))) ⌝ }
+{
+    let mut takes = Vec::new(heap);
+    for i in 0..bytes.len() / 8 {
+        let number = word_at(bytes, i);
+        if number >= KEY_LIMIT {
+            return Ok(None);
+        }
+        takes.push(number as u32)?;
+    }
+    Ok(Some(takes))
+}
+
+fn read_change(heap: Global, bytes: &[u8]) -> Result<Option<Change>, AllocError>
+    ensures { λ r. ⌜ made r (λ o. mapped change-of o ≡ change-from (words-of (now (bytes .entry)))) ⌝ }
+{
+    let count = bytes.len() / 8;
+    if count < 7 {
+        return Ok(None);
+    }
+    let many_adds = word_at(bytes, 5);
+    if many_adds > (count as u64 - 7) / 3 {
+        return Ok(None);
+    }
+    let many_takes = word_at(bytes, 6);
+    if many_takes != count as u64 - 7 - 3 * many_adds {
+        return Ok(None);
+    }
+    let Some(action) = action_from(
+        word_at(bytes, 0),
+        word_at(bytes, 1),
+        word_at(bytes, 2),
+        word_at(bytes, 3),
+    ) else {
+        return Ok(None);
+    };
+    let middle = 56 + 24 * many_adds as usize;
+    let Some(adds) = read_adds(heap, &bytes[56..middle])? else {
+        return Ok(None);
+    };
+    let Some(takes) = read_takes(heap, &bytes[middle..])? else {
+        return Ok(None);
+    };
+    Ok(Some(Change {
+        action,
+        touched: word_at(bytes, 4),
+        adds,
+        takes,
+    }))
+}
+
+// The entry that bytes are; none where they are cut short or longer, their sum is another, or a number is out of its bounds.
+pub fn read_entry(heap: Global, bytes: &[u8]) -> Result<Option<Entry>, Refusal>
+    ensures { λ r. ⌜ Unless-out r (entry-read r ≡ Ok (entry-in (now (bytes .entry)))) ⌝ }
+{
+    let Some(count) = unseal(bytes) else {
+        return Ok(None);
+    };
+    if count < 3 {
+        return Ok(None);
+    }
+    let writer = word_at(bytes, 1);
+    if writer >= WRITERS as u64 {
+        return Ok(None);
+    }
+    let Some(change) = read_change(heap, &bytes[24..8 * count])? else {
+        return Ok(None);
+    };
+    Ok(Some(Entry {
+        place: word_at(bytes, 0),
+        writer: writer as u8,
+        serial: word_at(bytes, 2),
+        change,
+    }))
 }
