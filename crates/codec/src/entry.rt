@@ -145,10 +145,10 @@ fn front(entry: &Entry) -> Option<(usize, [u64; 10])>
 pub fn entry_length(entry: &Entry) -> Option<usize>
     ensures { λ r. ⌜ r ≡ entry-length (entry-of (now (entry .entry))) ⌝ }
 {
-    let Some((count, _)) = front(entry) else {
+    let Some((words, _)) = front(entry) else {
         return None;
     };
-    Some(8 * (count + 1))
+    Some(8 * (words + 1))
 }
 
 fn put_adds(out: &mut [u8], k: usize, adds: &[Added])
