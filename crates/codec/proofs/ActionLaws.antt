@@ -11,7 +11,8 @@ use Rattle.std.specs.declared.option.Option.the-variants.{Some, None}
 use Rattle.codec.specs.declared.action.Action.{Action}
 use Rattle.codec.specs.declared.action.Action.the-variants.{Insert, Erase, Raise, Pack}
 use Rattle.codec.specs.Words.{Are-words}
-use Rattle.codec.specs.Actions.{span, is-key, is-word, action-words, action-fits, action-in}
+use Rattle.codec.specs.Bounds.{is-key, is-word}
+use Rattle.codec.specs.Actions.{span, action-words, action-fits, action-in}
 use Rattle.codec.proofs.SealLaws.{cond-some}
 
 -- the numbers of an action, and that they are read as it

@@ -17,13 +17,13 @@ use Rattle.std.proofs.shelf.Ways.{tells}
 use Rattle.rows.specs.Checks.{some-else}
 use Rattle.codec.specs.declared.action.Action.{Action}
 use Rattle.codec.specs.declared.entry.Added.{Added}
-use Rattle.codec.specs.Actions.{is-key, is-word, action-words, action-fits, action-in}
-use Rattle.codec.specs.Every.{every}
+use Rattle.codec.specs.Bounds.{is-key, is-word, every}
+use Rattle.codec.specs.Actions.{action-words, action-fits, action-in}
 use Rattle.codec.specs.Words.{Are-bytes, Are-words}
 use Rattle.codec.specs.Seals.{sealed-bytes, unsealed}
 use Rattle.codec.specs.Entries.{TableChange, LogEntry, added-fits, files-fit, change-fits, entry-fits, added-words, change-head, change-words, entry-words, entry-bytes, adds-in, takes-in, change-made, is-whole, change-from, entry-from, entry-in}
 use Rattle.codec.proofs.SealLaws.{unsealed-sealed, sealed-unsealed}
-use Rattle.codec.proofs.EveryLaws.{some-of-cond, some-of-mapped, some-of-else}
+use Rattle.codec.proofs.BoundLaws.{some-of-cond, some-of-mapped, some-of-else}
 use Rattle.codec.proofs.ActionLaws.{numbers, action-is}
 use Rattle.codec.proofs.EntryFiles.{length-added-words, adds-back, adds-are, adds-fit-words, takes-back, takes-are, takes-fit-words}
 

@@ -14,10 +14,11 @@ use Rattle.std.proofs.shelf.Tests.{and-from, and-left, and-right, cond-true, co
 use Rattle.rows.specs.Checks.{some-else}
 use Rattle.codec.specs.declared.action.Action.{Action}
 use Rattle.codec.specs.declared.entry.Added.{Added}
-use Rattle.codec.specs.Actions.{is-key, action-in}
+use Rattle.codec.specs.Bounds.{is-key}
+use Rattle.codec.specs.Actions.{action-in}
 use Rattle.codec.specs.Words.{words-of}
 use Rattle.codec.specs.Seals.{unsealed}
-use Rattle.codec.specs.Entries.{TableChange, LogEntry, added, added-fits, adds-in, takes-in, change-made, is-whole, change-from, entry-from, entry-in}
+use Rattle.codec.specs.Entries.{TableChange, LogEntry, added-of, added-fits, adds-in, takes-in, change-made, is-whole, change-from, entry-from, entry-in}
 use Rattle.codec.proofs.WordLaws.{words-part, words-rest}
 use Rattle.codec.proofs.SealLaws.{cond-some}
 
@@ -46,7 +47,7 @@ takes-all-in ws old i h inv = ap Some (sym (append-nil old)) ∙ ap (behind old)
 -- added files, three numbers to each
 module _ (ws : List ℕ) (i n a b : ℕ) (h : 3 * i + 3 ≤ length ws) (is-n : n ≡ getD ws (3 * i) 0) (is-a : a ≡ getD ws (3 * i + 1) 0) (is-b : b ≡ getD ws (3 * i + 2) 0) where
   abbrev answer : Option (List Added)
-  answer = cond (added-fits (added n a b)) (mapped (λ l. added n a b ∷ l) (adds-in (drop (3 * (i + 1)) ws))) None
+  answer = cond (added-fits (added-of n a b)) (mapped (λ l. added-of n a b ∷ l) (adds-in (drop (3 * (i + 1)) ws))) None
 
   adds-turn : adds-in (drop (3 * i) ws) ≡ answer
   adds-turn =
@@ -58,16 +59,16 @@ module _ (ws : List ℕ) (i n a b : ℕ) (h : 3 * i + 3 ≤ length ws) (is-n : n
       let all : drop (3 * i) ws ≡ n ∷ a ∷ b ∷ drop (3 * (i + 1)) ws = cc in
       ap adds-in all
 
-  pub add-more-in : (old new : List Added) (x : Added) → Some x ≡ cond (added-fits (added n a b)) (Some (added n a b)) None → new ≡ old ++ x ∷ []
+  pub add-more-in : (old new : List Added) (x : Added) → Some x ≡ cond (added-fits (added-of n a b)) (Some (added-of n a b)) None → new ≡ old ++ x ∷ []
       → behind old (adds-in (drop (3 * i) ws)) ≡ adds-in ws → behind new (adds-in (drop (3 * (i + 1)) ws)) ≡ adds-in ws
   add-more-in old new x s e inv =
-      let p = cond-some (added-fits (added n a b)) (added n a b) x (sym s) in
-      one-behind old new (added n a b) (adds-in (drop (3 * (i + 1)) ws)) (e ∙ ap (λ y. old ++ y ∷ []) (sym (p .1))) ∙ ap (behind old) (sym (adds-turn ∙ cond-true (added-fits (added n a b)) _ _ (p .0))) ∙ inv
+      let p = cond-some (added-fits (added-of n a b)) (added-of n a b) x (sym s) in
+      one-behind old new (added-of n a b) (adds-in (drop (3 * (i + 1)) ws)) (e ∙ ap (λ y. old ++ y ∷ []) (sym (p .1))) ∙ ap (behind old) (sym (adds-turn ∙ cond-true (added-fits (added-of n a b)) _ _ (p .0))) ∙ inv
 
-  pub add-out-of-bounds : (old : List Added) → None ≡ cond (added-fits (added n a b)) (Some (added n a b)) None → behind old (adds-in (drop (3 * i) ws)) ≡ adds-in ws → None ≡ adds-in ws
-  add-out-of-bounds old s inv = ap (behind old) (sym (adds-turn ∙ none (added-fits (added n a b)) s)) ∙ inv
+  pub add-out-of-bounds : (old : List Added) → None ≡ cond (added-fits (added-of n a b)) (Some (added-of n a b)) None → behind old (adds-in (drop (3 * i) ws)) ≡ adds-in ws → None ≡ adds-in ws
+  add-out-of-bounds old s inv = ap (behind old) (sym (adds-turn ∙ none (added-fits (added-of n a b)) s)) ∙ inv
     where
-      none : (t : Bool) → None ≡ cond t (Some (added n a b)) None → cond t (mapped (λ l. added n a b ∷ l) (adds-in (drop (3 * (i + 1)) ws))) None ≡ None
+      none : (t : Bool) → None ≡ cond t (Some (added-of n a b)) None → cond t (mapped (λ l. added-of n a b ∷ l) (adds-in (drop (3 * (i + 1)) ws))) None ≡ None
       none true f = absurd (let z : _≡_ {A = ℕ} 0 1 = cc in omega arith)
       none false f = refl
 

@@ -15,11 +15,11 @@ use Rattle.std.proofs.shelf.Ways.{tells}
 use Rattle.codec.specs.declared.action.Action.{Action}
 use Rattle.codec.specs.declared.action.Action.the-variants.{Insert, Erase, Raise, Pack}
 use Rattle.codec.specs.declared.entry.Added.{Added}
-use Rattle.codec.specs.Actions.{is-key, is-word, action-words, action-fits}
-use Rattle.codec.specs.Every.{every}
+use Rattle.codec.specs.Bounds.{is-key, is-word, every}
+use Rattle.codec.specs.Actions.{action-words, action-fits}
 use Rattle.codec.specs.Words.{Are-words, words-of, put-at, bytes-of}
 use Rattle.codec.specs.Seals.{written}
-use Rattle.codec.specs.Entries.{LogEntry, TableChange, added-fits, files-fit, files-writable, change-fits, entry-fits, added-words, change-head, entry-head, entry-words, entry-bytes, writable, entry-written}
+use Rattle.codec.specs.Entries.{LogEntry, TableChange, added-fits, files-fit, count-with, files-writable, change-fits, entry-fits, added-words, change-head, entry-head, entry-words, entry-bytes, writable, entry-written}
 use Rattle.codec.proofs.WordLaws.{put-on}
 use Rattle.codec.proofs.SealLaws.{cond-some, length-sealed-bytes, seal-done, written-done, written-not}
 use Rattle.codec.proofs.EntryFiles.{length-added-words, added-words-append}
@@ -37,35 +37,32 @@ length-entry-head e =
     let o = e .change .action in
     omega (arith, length-append (action-words o) (e .change .touched ∷ length (e .change .adds) ∷ length (e .change .takes) ∷ []), length-action-words o)
 
-length-entry-words : (e : LogEntry) → length (entry-words e) ≡ 10 + 3 * length (e .change .adds) + length (e .change .takes)
+length-entry-words : (e : LogEntry) → length (entry-words e) ≡ count-with (e .change .adds) (e .change .takes)
 length-entry-words e =
     let c = e .change in
     let files = added-words (c .adds) ++ c .takes in
     omega (arith, length-entry-head e, length-append (change-head c) files, length-append (added-words (c .adds)) (c .takes), length-added-words (c .adds))
 
-pub length-entry-bytes : (e : LogEntry) → length (entry-bytes e) ≡ 8 * (11 + 3 * length (e .change .adds) + length (e .change .takes))
+pub length-entry-bytes : (e : LogEntry) → length (entry-bytes e) ≡ 8 * (count-with (e .change .adds) (e .change .takes) + 1)
 unfolding entry-bytes
 length-entry-bytes e = length-sealed-bytes (entry-words e) ∙ omega (arith, length-entry-words e)
 
 -- whether files can be written, by the code's tests
 module _ (adds : List Added) (takes : List ℕ) where
-  abbrev many : ℕ
-  many = 10 + 3 * length adds + length takes
-
-  pub added-unfit : every added-fits adds ≡ false → None ≡ cond (files-writable adds takes) (Some many) None
+  pub added-unfit : every added-fits adds ≡ false → None ≡ cond (files-writable adds takes) (Some (count-with adds takes)) None
   added-unfit h =
       sym (cond-false _ _ _ (and-left (files-fit adds takes) _ (and-left (is-word (length adds) && every added-fits adds) _ (and-right (is-word (length adds)) (every added-fits adds) h))))
 
-  pub files-counted : (r : Option ℕ) → every added-fits adds ≡ true → every is-key takes ≡ true → r ≡ cond (is-word (8 * (11 + 3 * length adds + length takes))) (Some many) None → r ≡ cond (files-writable adds takes) (Some many) None
+  pub files-counted : (r : Option ℕ) → every added-fits adds ≡ true → every is-key takes ≡ true → r ≡ cond (is-word (8 * (count-with adds takes + 1))) (Some (count-with adds takes)) None → r ≡ cond (files-writable adds takes) (Some (count-with adds takes)) None
   files-counted r ha ht e = grind (arith, tells)
 
-  pub files-some : (n : ℕ) → Some n ≡ cond (files-writable adds takes) (Some many) None → (files-writable adds takes ≡ true) × (n ≡ many)
-  files-some n e = let p = cond-some (files-writable adds takes) many n (sym e) in (p .0, sym (p .1))
+  pub files-some : (n : ℕ) → Some n ≡ cond (files-writable adds takes) (Some (count-with adds takes)) None → (files-writable adds takes ≡ true) × (n ≡ count-with adds takes)
+  files-some n e = let p = cond-some (files-writable adds takes) (count-with adds takes) n (sym e) in (p .0, sym (p .1))
 
-  pub files-none : None ≡ cond (files-writable adds takes) (Some many) None → files-writable adds takes ≡ false
+  pub files-none : None ≡ cond (files-writable adds takes) (Some (count-with adds takes)) None → files-writable adds takes ≡ false
   files-none e = go (files-writable adds takes) e
     where
-      go : (b : Bool) → None ≡ cond b (Some many) None → b ≡ false
+      go : (b : Bool) → None ≡ cond b (Some (count-with adds takes)) None → b ≡ false
       go true f = absurd (let z : _≡_ {A = ℕ} 0 1 = cc in omega arith)
       go false f = refl
 
@@ -84,14 +81,14 @@ module _ (e : LogEntry) where
       let f : files-writable (e .change .adds) (e .change .takes) ≡ false = sym (ap (λ l. files-writable l takes) ea ∙ ap (files-writable (e .change .adds)) et) ∙ h in
       sym (cond-false (writable e) _ _ (grind (arith, tells, length-entry-bytes e)))
 
-  pub front-done : (adds : List Added) (takes h : List ℕ) (n a t : ℕ) → adds ≡ e .change .adds → takes ≡ e .change .takes → Some n ≡ cond (files-writable adds takes) (Some (10 + 3 * length adds + length takes)) None
+  pub front-done : (adds : List Added) (takes h : List ℕ) (n a t : ℕ) → adds ≡ e .change .adds → takes ≡ e .change .takes → Some n ≡ cond (files-writable adds takes) (Some (count-with adds takes)) None
       → e .place < 2 ^ 64 → e .writer < 16 → e .serial < 2 ^ 64 → action-fits (e .change .action) ≡ true → e .change .touched < 2 ^ 64
       → h ≡ e .place ∷ e .writer ∷ e .serial ∷ (action-words (e .change .action) ++ e .change .touched ∷ a ∷ t ∷ []) → a ≡ length (e .change .adds) → t ≡ length (e .change .takes)
       → Some (n, h) ≡ answer
   unfolding writable
   front-done adds takes h n a t ea et f hp hw hs ha ht eh na nt =
-      let g : Some n ≡ cond (files-writable (e .change .adds) (e .change .takes)) (Some (many (e .change .adds) (e .change .takes))) None =
-      f ∙ ap (λ l. cond (files-writable l takes) (Some (many l takes)) None) ea ∙ ap (λ l. cond (files-writable (e .change .adds) l) (Some (many (e .change .adds) l)) None) et in
+      let g : Some n ≡ cond (files-writable (e .change .adds) (e .change .takes)) (Some (count-with (e .change .adds) (e .change .takes))) None =
+      f ∙ ap (λ l. cond (files-writable l takes) (Some (count-with l takes)) None) ea ∙ ap (λ l. cond (files-writable (e .change .adds) l) (Some (count-with (e .change .adds) l)) None) et in
       let p = files-some (e .change .adds) (e .change .takes) n g in
       let q = and-parts (files-fit (e .change .adds) (e .change .takes)) _ (p .0) in
       let w : writable e ≡ true =
@@ -104,7 +101,7 @@ module _ (e : LogEntry) where
 -- what is known of the front of an entry that can be written
 pub record Front (e : LogEntry) (n : ℕ) (h : List ℕ) : Type 0 where
   pub can : writable e ≡ true
-  pub count : n ≡ 10 + 3 * length (e .change .adds) + length (e .change .takes)
+  pub count : n ≡ count-with (e .change .adds) (e .change .takes)
   pub bytes : 8 * (n + 1) ≡ length (entry-bytes e)
   pub fits : 8 * (n + 1) < 2 ^ 64
   pub head : h ≡ entry-head e
@@ -115,7 +112,7 @@ front-is e n h f =
     let p = cond-some (writable e) (length (entry-words e), entry-head e) (n, h) (sym f) in
     let q = and-parts (entry-fits e) _ (p .0) in
     let m : n ≡ length (entry-words e) = ap (λ (x : ℕ × List ℕ). x .0) (sym (p .1)) in
-    let k : n ≡ 10 + 3 * length (e .change .adds) + length (e .change .takes) = m ∙ length-entry-words e in
+    let k : n ≡ count-with (e .change .adds) (e .change .takes) = m ∙ length-entry-words e in
     let b = length-entry-bytes e in
     record {
       can = p .0;

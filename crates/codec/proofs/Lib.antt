@@ -1,6 +1,6 @@
 pub mod WordLaws
 pub mod SealLaws
-pub mod EveryLaws
+pub mod BoundLaws
 pub mod ActionLaws
 pub mod EntryFiles
 pub mod EntryLaws

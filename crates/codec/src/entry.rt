@@ -10,9 +10,10 @@ ghost use Rattle.std.specs.Vec.{made};
 ghost use Rattle.std.specs.declared.option.Option.the-variants.{Some, None};
 ghost use Rattle.std.specs.declared.result.Result.the-variants.{Ok};
 ghost use Rattle.rows.specs.Refusals.{Unless-out};
-ghost use Rattle.codec.specs.Actions.{is-word, action-words, action-fits};
+ghost use Rattle.codec.specs.Bounds.{is-word};
+ghost use Rattle.codec.specs.Actions.{action-words, action-fits};
 ghost use Rattle.codec.specs.Words.{put-at, bytes-of, words-of};
-ghost use Rattle.codec.specs.Entries.{added, added-fits, files-writable, added-words, adds-in, takes-in, change-of, change-from, entry-of, entry-head, entry-words, writable, entry-length, entry-written, entry-in, entry-read};
+ghost use Rattle.codec.specs.Entries.{added-of, added-fits, count-with, files-writable, added-words, adds-in, takes-in, change-of, change-from, entry-of, entry-head, entry-words, writable, entry-length, entry-written, entry-in, entry-read};
 use crate::action::Action;
 use crate::action::KEY_LIMIT;
 use crate::action::action_from;
@@ -67,7 +68,7 @@ fn added_fits(added: Added) -> bool
 
 // How many numbers an entry with these files has before its sum; none where its length would not fit.
 fn count_words(adds: &[Added], takes: &[u32]) -> Option<usize>
-    ensures { λ r. ⌜ r ≡ cond (is-word (8 * (11 + 3 * length (now (adds .entry)) + length (now (takes .entry))))) (Some (10 + 3 * length (now (adds .entry)) + length (now (takes .entry)))) None ⌝ }
+    ensures { λ r. ⌜ r ≡ cond (is-word (8 * (count-with (now (adds .entry)) (now (takes .entry)) + 1))) (Some (count-with (now (adds .entry)) (now (takes .entry)))) None ⌝ }
 {
     if adds.len() > (MOST_WORDS - 11) / 3 {
         return None;
@@ -80,7 +81,7 @@ fn count_words(adds: &[Added], takes: &[u32]) -> Option<usize>
 
 // The same, and none also where a file is out of its bounds.
 fn files_words(adds: &[Added], takes: &[u32]) -> Option<usize>
-    ensures { λ r. ⌜ r ≡ cond (files-writable (now (adds .entry)) (now (takes .entry))) (Some (10 + 3 * length (now (adds .entry)) + length (now (takes .entry)))) None ⌝ }
+    ensures { λ r. ⌜ r ≡ cond (files-writable (now (adds .entry)) (now (takes .entry))) (Some (count-with (now (adds .entry)) (now (takes .entry)))) None ⌝ }
 {
     for i in 0..adds.len() {
         if !added_fits(adds[i]) {
@@ -200,7 +201,7 @@ pub fn write_entry(entry: &Entry, out: &mut [u8]) -> Option<usize>
 
 // The added file that three numbers are.
 fn added_from(number: u64, from: u64, to: u64) -> Option<Added>
-    ensures { λ r. ⌜ r ≡ cond (added-fits (added number from to)) (Some (added number from to)) None ⌝ }
+    ensures { λ r. ⌜ r ≡ cond (added-fits (added-of number from to)) (Some (added-of number from to)) None ⌝ }
 {
     if number >= KEY_LIMIT {
         return None;
