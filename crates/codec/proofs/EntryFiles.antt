@@ -1,19 +1,17 @@
 -- Added and taken files as numbers, both ways.
-use Prim.Native.Nat.{ℕ, zero, suc, _+_, _*_, _^_, _≤_, _<_}
-use mathlib.Core.Path.{_≡_, refl, sym, _∙_, ap, subst}
-use mathlib.Core.Bool.{true, false, cond, _&&_}
+use Prim.Native.Nat.{ℕ, _*_}
+use mathlib.Core.Path.{_≡_, refl, sym, _∙_, ap}
+use mathlib.Core.Bool.{true}
 use mathlib.Core.List.{List, [], _∷_, _++_}
 use native.Mathlib.Omega.{arith}
-use lib.ListN.{length, take, drop, getD}
+use lib.ListN.{length}
 use Rattle.std.proofs.shelf.Ways.{tells}
-use Rattle.std.proofs.shelf.Lists.{append-nil, append-assoc, drop-more, drop-all, take-more, length-take-le}
 use Rattle.std.proofs.shelf.Tests.{and-from, and-parts}
 use Rattle.std.specs.Options.{mapped}
-use Rattle.std.specs.declared.option.Option.{Option}
-use Rattle.std.specs.declared.option.Option.the-variants.{Some, None}
+use Rattle.std.specs.declared.option.Option.the-variants.{Some}
 use Rattle.codec.specs.declared.entry.Added.{Added}
 use Rattle.codec.specs.Bounds.{is-key, every}
-use Rattle.codec.specs.Words.{Are-words, words-of, put-at, bytes-of}
+use Rattle.codec.specs.Words.{Are-words}
 use Rattle.codec.specs.Entries.{added-of, added-fits, added-words, adds-in, takes-in}
 use Rattle.codec.proofs.BoundLaws.{some-of-cond, some-of-mapped}
 

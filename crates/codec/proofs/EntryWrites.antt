@@ -1,15 +1,15 @@
 -- What writing an entry leaves.
-use Prim.Native.Nat.{ℕ, zero, suc, _+_, _*_, _%_, _^_, _≤_, _<_}
-use mathlib.Core.Path.{_≡_, refl, sym, _∙_, ap, subst}
+use Prim.Native.Nat.{ℕ, _+_, _*_, _%_, _^_, _≤_, _<_}
+use mathlib.Core.Path.{_≡_, refl, sym, _∙_, ap}
 use mathlib.Core.Bool.{Bool, true, false, cond, _&&_}
 use mathlib.Core.List.{List, [], _∷_, _++_}
 use native.Mathlib.Omega.{arith}
-use lib.Dec.{ltb, leb}
+use lib.Dec.{ltb}
 use lib.ListN.{length, take, drop, getD}
 use Rattle.std.specs.declared.option.Option.{Option}
 use Rattle.std.specs.declared.option.Option.the-variants.{Some, None}
 use Rattle.std.specs.shelf.Lists.{sum}
-use Rattle.std.proofs.shelf.Lists.{append-assoc, length-append, length-take-le, take-more}
+use Rattle.std.proofs.shelf.Lists.{append-assoc, length-append, length-take-le, take-at, take-more}
 use Rattle.std.proofs.shelf.Tests.{and-from, and-left, and-right, and-parts, cond-true, cond-false, le-ltb, lt-ltb, ltb-true}
 use Rattle.std.proofs.shelf.Ways.{tells}
 use Rattle.codec.specs.declared.action.Action.{Action}
@@ -17,13 +17,13 @@ use Rattle.codec.specs.declared.action.Action.the-variants.{Insert, Erase, Rai
 use Rattle.codec.specs.declared.entry.Added.{Added}
 use Rattle.codec.specs.Bounds.{is-key, is-word, every}
 use Rattle.codec.specs.Actions.{action-words, action-fits}
-use Rattle.codec.specs.Words.{Are-words, words-of, put-at, bytes-of}
+use Rattle.codec.specs.Words.{words-of, put-at, bytes-of}
 use Rattle.codec.specs.Seals.{written}
-use Rattle.codec.specs.Entries.{LogEntry, TableChange, added-fits, files-fit, count-with, files-writable, change-fits, entry-fits, added-words, change-head, entry-head, entry-words, entry-bytes, writable, entry-written}
+use Rattle.codec.specs.Entries.{LogEntry, added-fits, files-fit, count-with, files-writable, entry-fits, added-words, change-head, entry-head, entry-words, entry-bytes, writable, entry-written, entry-in}
 use Rattle.codec.proofs.WordLaws.{put-on}
-use Rattle.codec.proofs.SealLaws.{cond-some, length-sealed-bytes, seal-done, written-done, written-not}
+use Rattle.codec.proofs.SealLaws.{cond-some, length-sealed-bytes, seal-done, written-done, written-not, written-some}
 use Rattle.codec.proofs.EntryFiles.{length-added-words, added-words-append}
-use Rattle.codec.proofs.EntryLaws.{entry-fits-words}
+use Rattle.codec.proofs.EntryLaws.{entry-fits-words, come-back}
 
 -- how long an entry is
 length-action-words : (o : Action) → length (action-words o) ≡ 4
@@ -175,3 +175,19 @@ module _ (e : LogEntry) (n : ℕ) (h : List ℕ) (front : Front e n h) where
       let fit = and-parts (entry-fits e) _ (front .can) in
       let g5 = seal-done (entry-words e) xs three four n (count ∙ sym (length-entry-words e)) (omega arith) (entry-fits-words e (fit .0)) g4 e4 in
       written-done (entry-bytes e) xs four (8 * (n + 1)) (omega arith) lb g5 ∙ sym (cond-true (writable e) _ _ (front .can))
+
+-- an entry that was written was in its bounds, and reads again
+pub entry-read-back : (e : LogEntry) (xs cur : List ℕ) (n : ℕ) → _≡_ {A = Option ℕ × List ℕ} (Some n, cur) (entry-written e xs)
+    → (entry-fits e ≡ true) × (n ≡ length (entry-bytes e)) × (cur ≡ entry-bytes e ++ drop (length (entry-bytes e)) xs) × (entry-in (take n cur) ≡ Some e)
+unfolding writable
+entry-read-back e xs cur n f = go (writable e) refl f
+  where
+    go : (b : Bool) → writable e ≡ b → _≡_ {A = Option ℕ × List ℕ} (Some n, cur) (cond b (written (entry-bytes e) xs) (None, xs))
+        → (entry-fits e ≡ true) × (n ≡ length (entry-bytes e)) × (cur ≡ entry-bytes e ++ drop (length (entry-bytes e)) xs) × (entry-in (take n cur) ≡ Some e)
+    go true w g =
+        let p = and-parts (entry-fits e) _ w in
+        let q = written-some (entry-bytes e) xs cur n g in
+        let rest = drop (length (entry-bytes e)) xs in
+        let front : take n cur ≡ entry-bytes e = ap (take n) (q .2) ∙ take-at (entry-bytes e) rest n (sym (q .1)) in
+        (p .0, q .1, q .2, ap entry-in front ∙ come-back e (p .0))
+    go false w g = absurd (let h : _≡_ {A = Option ℕ} (Some n) None = ap (λ (p : Option ℕ × List ℕ). p .0) g in let z : _≡_ {A = ℕ} 0 1 = cc in omega arith)

@@ -6,8 +6,8 @@ use native.Mathlib.Omega.{arith}
 use native.Mathlib.Nat.{div-div-eq-div-mul, pow-suc}
 use lib.ListN.{length, take, drop, getD}
 use borrow.Rule.Slice.PartMut.{putMid}
-use Rattle.std.specs.shelf.Lists.{All, sum}
-use Rattle.std.proofs.shelf.Lists.{append-nil, append-assoc, drop-drop, drop-all, drop-append-le, drop-at, drop-take, getD-drop, length-append, length-take, length-take-le, length-drop, take-at, take-all, take-append-drop, take-append-le, take-more, take-rest, take-take}
+use Rattle.std.specs.shelf.Lists.{sum}
+use Rattle.std.proofs.shelf.Lists.{append-nil, append-assoc, drop-drop, drop-all, drop-append-le, drop-at, drop-take, getD-drop, length-append, length-take, length-take-le, length-drop, take-at, take-append-drop, take-append-le, take-more, take-rest, take-take}
 use Rattle.std.proofs.shelf.Elements.{all-take, all-drop}
 use Rattle.std.proofs.shelf.Sums.{sumBy-more}
 use Rattle.codec.specs.Words.{Are-bytes, Are-words, le, bytes-le, put-at, bytes-of, words, words-of}

@@ -1,7 +1,5 @@
-use mathlib.Core.Path.{_≡_, _∙_}
 use Prim.Native.Nat.{_+_, _-_, _*_}
 use native.Mathlib.Omega.{arith}
-use Rattle.codec.specs.Words.{le}
 use Rattle.codec.proofs.WordLaws.{le-eight, word-is}
 use Rattle.codec.proofs.words.word_at.Needs as need
 
