@@ -1,4 +1,5 @@
-// Entries of the log as bytes.
+// Entries of the log as bytes: place, writer, serial, kind and three numbers of the action, rows touched, how many files come and how many go,
+// number, smallest and largest key of each that comes, number of each that goes, and the sum of all these modulo 2^64.
 ghost use mathlib.Core.Path.{_≡_};
 ghost use mathlib.Core.Bool.{true, cond};
 ghost use mathlib.Core.List.{[], _∷_, _++_};
@@ -30,9 +31,10 @@ use rows::span::SpanPartialEq;
 use std::alloc::AllocError;
 use std::alloc::Global;
 
+// Writers are below 16.
 const WRITERS: u8 = 16;
 
-// The most numbers whose bytes fit a memory.
+// The most numbers whose length in bytes fits 64 bits.
 const MOST_WORDS: usize = 2305843009213693951;
 
 // A file that an entry adds, and the span from its smallest key to its largest.
