@@ -1,17 +1,18 @@
 -- Actions as a kind and three numbers, both ways.
 use Prim.Native.Nat.{ℕ, zero, suc, _^_, _<_}
-use mathlib.Core.Path.{_≡_, refl, sym, _∙_, ap, subst}
+use mathlib.Core.Path.{_≡_, refl, subst}
 use mathlib.Core.Bool.{true, _&&_}
 use mathlib.Core.List.{List, [], _∷_}
 use native.Mathlib.Omega.{arith}
 use lib.Dec.{eqb}
 use Rattle.std.proofs.shelf.Tests.{lt-ltb}
 use Rattle.std.proofs.shelf.Ways.{tells}
-use Rattle.std.specs.declared.option.Option.the-variants.{Some, None}
+use Rattle.std.specs.declared.option.Option.the-variants.{Some}
 use Rattle.codec.specs.declared.action.Action.{Action}
 use Rattle.codec.specs.declared.action.Action.the-variants.{Insert, Erase, Raise, Pack}
 use Rattle.codec.specs.Words.{Are-words}
-use Rattle.codec.specs.Actions.{span, is-key, is-word, action-words, action-fits, action-in}
+use Rattle.codec.specs.Bounds.{is-key}
+use Rattle.codec.specs.Actions.{span, action-words, action-fits, action-in}
 use Rattle.codec.proofs.SealLaws.{cond-some}
 
 -- the numbers of an action, and that they are read as it

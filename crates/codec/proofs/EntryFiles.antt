@@ -1,22 +1,19 @@
 -- Added and taken files as numbers, both ways.
-use Prim.Native.Nat.{ℕ, zero, suc, _+_, _*_, _^_, _≤_, _<_}
-use mathlib.Core.Path.{_≡_, refl, sym, _∙_, ap, subst}
-use mathlib.Core.Bool.{true, false, cond, _&&_}
+use Prim.Native.Nat.{ℕ, _*_}
+use mathlib.Core.Path.{_≡_, refl, sym, _∙_, ap}
+use mathlib.Core.Bool.{true}
 use mathlib.Core.List.{List, [], _∷_, _++_}
 use native.Mathlib.Omega.{arith}
-use lib.ListN.{length, take, drop, getD}
+use lib.ListN.{length}
 use Rattle.std.proofs.shelf.Ways.{tells}
-use Rattle.std.proofs.shelf.Lists.{append-nil, append-assoc, drop-more, drop-all, take-more, length-take-le}
 use Rattle.std.proofs.shelf.Tests.{and-from, and-parts}
 use Rattle.std.specs.Options.{mapped}
-use Rattle.std.specs.declared.option.Option.{Option}
-use Rattle.std.specs.declared.option.Option.the-variants.{Some, None}
+use Rattle.std.specs.declared.option.Option.the-variants.{Some}
 use Rattle.codec.specs.declared.entry.Added.{Added}
-use Rattle.codec.specs.Actions.{is-key}
-use Rattle.codec.specs.Every.{every}
-use Rattle.codec.specs.Words.{Are-words, words-of, put-at, bytes-of}
-use Rattle.codec.specs.Entries.{added, added-fits, added-words, adds-in, takes-in}
-use Rattle.codec.proofs.EveryLaws.{some-of-cond, some-of-mapped}
+use Rattle.codec.specs.Bounds.{is-key, every}
+use Rattle.codec.specs.Words.{Are-words}
+use Rattle.codec.specs.Entries.{added-of, added-fits, added-words, adds-in, takes-in}
+use Rattle.codec.proofs.BoundLaws.{some-of-cond, some-of-mapped}
 
 -- added files
 pub length-added-words : (adds : List Added) → length (added-words adds) ≡ 3 * length adds
@@ -38,10 +35,10 @@ adds-are [] adds e = let f : [] ≡ adds = cc in (ap added-words f, ap (every ad
 adds-are (n ∷ []) adds e = absurd (let z : _≡_ {A = ℕ} 0 1 = cc in omega arith)
 adds-are (n ∷ a ∷ []) adds e = absurd (let z : _≡_ {A = ℕ} 0 1 = cc in omega arith)
 adds-are (n ∷ a ∷ b ∷ ws) adds e =
-    let p = some-of-cond (added-fits (added n a b)) (mapped (λ l. added n a b ∷ l) (adds-in ws)) adds e in
-    let q = some-of-mapped (λ l. added n a b ∷ l) (adds-in ws) adds (p .1) in
+    let p = some-of-cond (added-fits (added-of n a b)) (mapped (λ l. added-of n a b ∷ l) (adds-in ws)) adds e in
+    let q = some-of-mapped (λ l. added-of n a b ∷ l) (adds-in ws) adds (p .1) in
     let r = adds-are ws (q .0) (q .1) in
-    (ap (λ l. n ∷ a ∷ b ∷ l) (r .0) ∙ ap added-words (q .2), ap (every added-fits) (sym (q .2)) ∙ and-from (added-fits (added n a b)) (every added-fits (q .0)) (p .0) (r .1))
+    (ap (λ l. n ∷ a ∷ b ∷ l) (r .0) ∙ ap added-words (q .2), ap (every added-fits) (sym (q .2)) ∙ and-from (added-fits (added-of n a b)) (every added-fits (q .0)) (p .0) (r .1))
 
 pub adds-fit-words : (adds : List Added) → every added-fits adds ≡ true → Are-words (added-words adds)
 adds-fit-words [] h = tt

@@ -1,29 +1,27 @@
 -- Entries come back from their bytes, and bytes that read as an entry are its own.
-use Prim.Native.Nat.{ℕ, zero, suc, _+_, _*_, _^_, _≤_, _<_}
-use mathlib.Core.Path.{_≡_, refl, sym, _∙_, ap, subst}
-use mathlib.Core.Bool.{Bool, true, false, cond, _&&_}
+use Prim.Native.Nat.{ℕ, _+_, _*_, _^_, _≤_, _<_}
+use mathlib.Core.Path.{_≡_, refl, sym, _∙_, ap}
+use mathlib.Core.Bool.{true, _&&_}
 use mathlib.Core.List.{List, [], _∷_, _++_}
 use native.Mathlib.Omega.{arith}
-use lib.Dec.{eqb, ltb, leb}
+use lib.Dec.{ltb, leb}
 use lib.ListN.{length, take, drop, getD}
 use Rattle.std.specs.Options.{mapped}
 use Rattle.std.specs.declared.option.Option.{Option}
 use Rattle.std.specs.declared.option.Option.the-variants.{Some, None}
-use Rattle.std.specs.shelf.Lists.{All}
 use Rattle.std.proofs.shelf.Elements.{all-append, all-drop, all-getD}
-use Rattle.std.proofs.shelf.Lists.{append-assoc, drop-at, length-append, length-drop, take-append-drop, take-at, length-take-le}
+use Rattle.std.proofs.shelf.Lists.{drop-at, length-append, length-drop, take-append-drop, take-at, length-take-le}
 use Rattle.std.proofs.shelf.Tests.{and-from, and-parts, cond-true, eq-eqb, eqb-true, le-leb, leb-true, lt-ltb, ltb-true}
-use Rattle.std.proofs.shelf.Ways.{tells}
 use Rattle.rows.specs.Checks.{some-else}
 use Rattle.codec.specs.declared.action.Action.{Action}
 use Rattle.codec.specs.declared.entry.Added.{Added}
-use Rattle.codec.specs.Actions.{is-key, is-word, action-words, action-fits, action-in}
-use Rattle.codec.specs.Every.{every}
+use Rattle.codec.specs.Bounds.{is-key, is-word, every}
+use Rattle.codec.specs.Actions.{action-words, action-fits, action-in}
 use Rattle.codec.specs.Words.{Are-bytes, Are-words}
 use Rattle.codec.specs.Seals.{sealed-bytes, unsealed}
-use Rattle.codec.specs.Entries.{TableChange, LogEntry, added-fits, files-fit, change-fits, entry-fits, added-words, change-head, change-words, entry-words, entry-bytes, adds-in, takes-in, change-made, is-whole, change-from, entry-from, entry-in}
+use Rattle.codec.specs.Entries.{TableChange, LogEntry, added-fits, change-fits, entry-fits, added-words, change-head, change-words, entry-words, entry-bytes, adds-in, takes-in, change-made, is-whole, change-from, entry-from, entry-in}
 use Rattle.codec.proofs.SealLaws.{unsealed-sealed, sealed-unsealed}
-use Rattle.codec.proofs.EveryLaws.{some-of-cond, some-of-mapped, some-of-else}
+use Rattle.codec.proofs.BoundLaws.{some-of-cond, some-of-mapped, some-of-else}
 use Rattle.codec.proofs.ActionLaws.{numbers, action-is}
 use Rattle.codec.proofs.EntryFiles.{length-added-words, adds-back, adds-are, adds-fit-words, takes-back, takes-are, takes-fit-words}
 

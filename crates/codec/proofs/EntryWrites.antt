@@ -1,29 +1,29 @@
 -- What writing an entry leaves.
-use Prim.Native.Nat.{ℕ, zero, suc, _+_, _*_, _%_, _^_, _≤_, _<_}
-use mathlib.Core.Path.{_≡_, refl, sym, _∙_, ap, subst}
+use Prim.Native.Nat.{ℕ, _+_, _*_, _%_, _^_, _≤_, _<_}
+use mathlib.Core.Path.{_≡_, refl, sym, _∙_, ap}
 use mathlib.Core.Bool.{Bool, true, false, cond, _&&_}
 use mathlib.Core.List.{List, [], _∷_, _++_}
 use native.Mathlib.Omega.{arith}
-use lib.Dec.{ltb, leb}
+use lib.Dec.{ltb}
 use lib.ListN.{length, take, drop, getD}
 use Rattle.std.specs.declared.option.Option.{Option}
 use Rattle.std.specs.declared.option.Option.the-variants.{Some, None}
 use Rattle.std.specs.shelf.Lists.{sum}
-use Rattle.std.proofs.shelf.Lists.{append-assoc, length-append, length-take-le, take-more}
+use Rattle.std.proofs.shelf.Lists.{append-assoc, length-append, length-take-le, take-at, take-more}
 use Rattle.std.proofs.shelf.Tests.{and-from, and-left, and-right, and-parts, cond-true, cond-false, le-ltb, lt-ltb, ltb-true}
 use Rattle.std.proofs.shelf.Ways.{tells}
 use Rattle.codec.specs.declared.action.Action.{Action}
 use Rattle.codec.specs.declared.action.Action.the-variants.{Insert, Erase, Raise, Pack}
 use Rattle.codec.specs.declared.entry.Added.{Added}
-use Rattle.codec.specs.Actions.{is-key, is-word, action-words, action-fits}
-use Rattle.codec.specs.Every.{every}
-use Rattle.codec.specs.Words.{Are-words, words-of, put-at, bytes-of}
+use Rattle.codec.specs.Bounds.{is-key, is-word, every}
+use Rattle.codec.specs.Actions.{action-words, action-fits}
+use Rattle.codec.specs.Words.{words-of, put-at, bytes-of}
 use Rattle.codec.specs.Seals.{written}
-use Rattle.codec.specs.Entries.{LogEntry, TableChange, added-fits, files-fit, files-writable, change-fits, entry-fits, added-words, change-head, entry-head, entry-words, entry-bytes, writable, entry-written}
+use Rattle.codec.specs.Entries.{LogEntry, added-fits, files-fit, count-with, files-writable, entry-fits, added-words, change-head, entry-head, entry-words, entry-bytes, writable, entry-written, entry-in}
 use Rattle.codec.proofs.WordLaws.{put-on}
-use Rattle.codec.proofs.SealLaws.{cond-some, length-sealed-bytes, seal-done, written-done, written-not}
+use Rattle.codec.proofs.SealLaws.{cond-some, length-sealed-bytes, seal-done, written-done, written-not, written-some}
 use Rattle.codec.proofs.EntryFiles.{length-added-words, added-words-append}
-use Rattle.codec.proofs.EntryLaws.{entry-fits-words}
+use Rattle.codec.proofs.EntryLaws.{entry-fits-words, come-back}
 
 -- how long an entry is
 length-action-words : (o : Action) → length (action-words o) ≡ 4
@@ -37,35 +37,32 @@ length-entry-head e =
     let o = e .change .action in
     omega (arith, length-append (action-words o) (e .change .touched ∷ length (e .change .adds) ∷ length (e .change .takes) ∷ []), length-action-words o)
 
-length-entry-words : (e : LogEntry) → length (entry-words e) ≡ 10 + 3 * length (e .change .adds) + length (e .change .takes)
+length-entry-words : (e : LogEntry) → length (entry-words e) ≡ count-with (e .change .adds) (e .change .takes)
 length-entry-words e =
     let c = e .change in
     let files = added-words (c .adds) ++ c .takes in
     omega (arith, length-entry-head e, length-append (change-head c) files, length-append (added-words (c .adds)) (c .takes), length-added-words (c .adds))
 
-pub length-entry-bytes : (e : LogEntry) → length (entry-bytes e) ≡ 8 * (11 + 3 * length (e .change .adds) + length (e .change .takes))
+pub length-entry-bytes : (e : LogEntry) → length (entry-bytes e) ≡ 8 * (count-with (e .change .adds) (e .change .takes) + 1)
 unfolding entry-bytes
 length-entry-bytes e = length-sealed-bytes (entry-words e) ∙ omega (arith, length-entry-words e)
 
 -- whether files can be written, by the code's tests
 module _ (adds : List Added) (takes : List ℕ) where
-  abbrev many : ℕ
-  many = 10 + 3 * length adds + length takes
-
-  pub added-unfit : every added-fits adds ≡ false → None ≡ cond (files-writable adds takes) (Some many) None
+  pub added-unfit : every added-fits adds ≡ false → None ≡ cond (files-writable adds takes) (Some (count-with adds takes)) None
   added-unfit h =
       sym (cond-false _ _ _ (and-left (files-fit adds takes) _ (and-left (is-word (length adds) && every added-fits adds) _ (and-right (is-word (length adds)) (every added-fits adds) h))))
 
-  pub files-counted : (r : Option ℕ) → every added-fits adds ≡ true → every is-key takes ≡ true → r ≡ cond (is-word (8 * (11 + 3 * length adds + length takes))) (Some many) None → r ≡ cond (files-writable adds takes) (Some many) None
+  pub files-counted : (r : Option ℕ) → every added-fits adds ≡ true → every is-key takes ≡ true → r ≡ cond (is-word (8 * (count-with adds takes + 1))) (Some (count-with adds takes)) None → r ≡ cond (files-writable adds takes) (Some (count-with adds takes)) None
   files-counted r ha ht e = grind (arith, tells)
 
-  pub files-some : (n : ℕ) → Some n ≡ cond (files-writable adds takes) (Some many) None → (files-writable adds takes ≡ true) × (n ≡ many)
-  files-some n e = let p = cond-some (files-writable adds takes) many n (sym e) in (p .0, sym (p .1))
+  pub files-some : (n : ℕ) → Some n ≡ cond (files-writable adds takes) (Some (count-with adds takes)) None → (files-writable adds takes ≡ true) × (n ≡ count-with adds takes)
+  files-some n e = let p = cond-some (files-writable adds takes) (count-with adds takes) n (sym e) in (p .0, sym (p .1))
 
-  pub files-none : None ≡ cond (files-writable adds takes) (Some many) None → files-writable adds takes ≡ false
+  pub files-none : None ≡ cond (files-writable adds takes) (Some (count-with adds takes)) None → files-writable adds takes ≡ false
   files-none e = go (files-writable adds takes) e
     where
-      go : (b : Bool) → None ≡ cond b (Some many) None → b ≡ false
+      go : (b : Bool) → None ≡ cond b (Some (count-with adds takes)) None → b ≡ false
       go true f = absurd (let z : _≡_ {A = ℕ} 0 1 = cc in omega arith)
       go false f = refl
 
@@ -84,14 +81,14 @@ module _ (e : LogEntry) where
       let f : files-writable (e .change .adds) (e .change .takes) ≡ false = sym (ap (λ l. files-writable l takes) ea ∙ ap (files-writable (e .change .adds)) et) ∙ h in
       sym (cond-false (writable e) _ _ (grind (arith, tells, length-entry-bytes e)))
 
-  pub front-done : (adds : List Added) (takes h : List ℕ) (n a t : ℕ) → adds ≡ e .change .adds → takes ≡ e .change .takes → Some n ≡ cond (files-writable adds takes) (Some (10 + 3 * length adds + length takes)) None
+  pub front-done : (adds : List Added) (takes h : List ℕ) (n a t : ℕ) → adds ≡ e .change .adds → takes ≡ e .change .takes → Some n ≡ cond (files-writable adds takes) (Some (count-with adds takes)) None
       → e .place < 2 ^ 64 → e .writer < 16 → e .serial < 2 ^ 64 → action-fits (e .change .action) ≡ true → e .change .touched < 2 ^ 64
       → h ≡ e .place ∷ e .writer ∷ e .serial ∷ (action-words (e .change .action) ++ e .change .touched ∷ a ∷ t ∷ []) → a ≡ length (e .change .adds) → t ≡ length (e .change .takes)
       → Some (n, h) ≡ answer
   unfolding writable
   front-done adds takes h n a t ea et f hp hw hs ha ht eh na nt =
-      let g : Some n ≡ cond (files-writable (e .change .adds) (e .change .takes)) (Some (many (e .change .adds) (e .change .takes))) None =
-      f ∙ ap (λ l. cond (files-writable l takes) (Some (many l takes)) None) ea ∙ ap (λ l. cond (files-writable (e .change .adds) l) (Some (many (e .change .adds) l)) None) et in
+      let g : Some n ≡ cond (files-writable (e .change .adds) (e .change .takes)) (Some (count-with (e .change .adds) (e .change .takes))) None =
+      f ∙ ap (λ l. cond (files-writable l takes) (Some (count-with l takes)) None) ea ∙ ap (λ l. cond (files-writable (e .change .adds) l) (Some (count-with (e .change .adds) l)) None) et in
       let p = files-some (e .change .adds) (e .change .takes) n g in
       let q = and-parts (files-fit (e .change .adds) (e .change .takes)) _ (p .0) in
       let w : writable e ≡ true =
@@ -104,7 +101,7 @@ module _ (e : LogEntry) where
 -- what is known of the front of an entry that can be written
 pub record Front (e : LogEntry) (n : ℕ) (h : List ℕ) : Type 0 where
   pub can : writable e ≡ true
-  pub count : n ≡ 10 + 3 * length (e .change .adds) + length (e .change .takes)
+  pub count : n ≡ count-with (e .change .adds) (e .change .takes)
   pub bytes : 8 * (n + 1) ≡ length (entry-bytes e)
   pub fits : 8 * (n + 1) < 2 ^ 64
   pub head : h ≡ entry-head e
@@ -115,7 +112,7 @@ front-is e n h f =
     let p = cond-some (writable e) (length (entry-words e), entry-head e) (n, h) (sym f) in
     let q = and-parts (entry-fits e) _ (p .0) in
     let m : n ≡ length (entry-words e) = ap (λ (x : ℕ × List ℕ). x .0) (sym (p .1)) in
-    let k : n ≡ 10 + 3 * length (e .change .adds) + length (e .change .takes) = m ∙ length-entry-words e in
+    let k : n ≡ count-with (e .change .adds) (e .change .takes) = m ∙ length-entry-words e in
     let b = length-entry-bytes e in
     record {
       can = p .0;
@@ -178,3 +175,19 @@ module _ (e : LogEntry) (n : ℕ) (h : List ℕ) (front : Front e n h) where
       let fit = and-parts (entry-fits e) _ (front .can) in
       let g5 = seal-done (entry-words e) xs three four n (count ∙ sym (length-entry-words e)) (omega arith) (entry-fits-words e (fit .0)) g4 e4 in
       written-done (entry-bytes e) xs four (8 * (n + 1)) (omega arith) lb g5 ∙ sym (cond-true (writable e) _ _ (front .can))
+
+-- an entry that was written was in its bounds, and reads again
+pub entry-read-back : (e : LogEntry) (xs cur : List ℕ) (n : ℕ) → _≡_ {A = Option ℕ × List ℕ} (Some n, cur) (entry-written e xs)
+    → (entry-fits e ≡ true) × (n ≡ length (entry-bytes e)) × (cur ≡ entry-bytes e ++ drop (length (entry-bytes e)) xs) × (entry-in (take n cur) ≡ Some e)
+unfolding writable
+entry-read-back e xs cur n f = go (writable e) refl f
+  where
+    go : (b : Bool) → writable e ≡ b → _≡_ {A = Option ℕ × List ℕ} (Some n, cur) (cond b (written (entry-bytes e) xs) (None, xs))
+        → (entry-fits e ≡ true) × (n ≡ length (entry-bytes e)) × (cur ≡ entry-bytes e ++ drop (length (entry-bytes e)) xs) × (entry-in (take n cur) ≡ Some e)
+    go true w g =
+        let p = and-parts (entry-fits e) _ w in
+        let q = written-some (entry-bytes e) xs cur n g in
+        let rest = drop (length (entry-bytes e)) xs in
+        let front : take n cur ≡ entry-bytes e = ap (take n) (q .2) ∙ take-at (entry-bytes e) rest n (sym (q .1)) in
+        (p .0, q .1, q .2, ap entry-in front ∙ come-back e (p .0))
+    go false w g = absurd (let h : _≡_ {A = Option ℕ} (Some n) None = ap (λ (p : Option ℕ × List ℕ). p .0) g in let z : _≡_ {A = ℕ} 0 1 = cc in omega arith)

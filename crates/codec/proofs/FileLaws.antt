@@ -19,13 +19,13 @@ use Rattle.rows.specs.Checks.{some-else}
 use Rattle.rows.specs.Numbers.{row}
 use Rattle.rows.specs.Rows.{amount-limit}
 use Rattle.codec.specs.declared.file.Head.{Head}
-use Rattle.codec.specs.Actions.{is-key, is-word}
-use Rattle.codec.specs.Every.{every}
+use Rattle.codec.specs.Bounds.{is-key, is-word}
+use Rattle.codec.specs.Bounds.{every}
 use Rattle.codec.specs.FileLaws.{Files-come-back, Files-are-one, Rows-are-there}
 use Rattle.codec.specs.Files.{File, file, row-fits, count-fits, file-fits, row-words, pairs, file-words, file-bytes, head-in, with-rows, file-from, file-in, row-in}
 use Rattle.codec.specs.Seals.{sealed-bytes, unsealed}
 use Rattle.codec.specs.Words.{Are-bytes, Are-words, words-of}
-use Rattle.codec.proofs.EveryLaws.{every-at, some-of-else}
+use Rattle.codec.proofs.BoundLaws.{every-at, some-of-else}
 use Rattle.codec.proofs.FileReads.{rows-at, length-pairs, row-in-at, row-missing, file-unsealed}
 use Rattle.codec.proofs.SealLaws.{cond-some, length-sealed-bytes, unsealed-sealed, sealed-unsealed, sealing}
 

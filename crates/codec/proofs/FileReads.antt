@@ -16,11 +16,11 @@ use Rattle.rows.specs.declared.row.Row.{Row}
 use Rattle.rows.specs.Checks.{some-else}
 use Rattle.rows.specs.Numbers.{row}
 use Rattle.codec.specs.declared.file.Head.{Head}
-use Rattle.codec.specs.Every.{every}
+use Rattle.codec.specs.Bounds.{every}
 use Rattle.codec.specs.Files.{row-fits, pairs, head-from, head-in, head-of, file, row-of, row-in, with-rows, file-from, file-in}
 use Rattle.codec.specs.Seals.{unsealed}
 use Rattle.codec.specs.Words.{words, words-of}
-use Rattle.codec.proofs.EveryLaws.{every-more, every-stop, every-end}
+use Rattle.codec.proofs.BoundLaws.{every-more, every-stop, every-end}
 use Rattle.codec.proofs.WordLaws.{length-words}
 
 -- rows of numbers

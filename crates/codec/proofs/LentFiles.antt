@@ -17,14 +17,14 @@ use Rattle.rows.specs.declared.row.Row.{Row}
 use Rattle.rows.specs.declared.span.Span.{Span}
 use Rattle.rows.specs.Numbers.{row}
 use Rattle.codec.specs.declared.write.Written.{Written}
-use Rattle.codec.specs.Actions.{is-key, is-word}
-use Rattle.codec.specs.Every.{every}
+use Rattle.codec.specs.Bounds.{is-key, is-word}
+use Rattle.codec.specs.Bounds.{every}
 use Rattle.codec.specs.Files.{File, file, most-rows, row-fits, count-fits, file-fits, row-of, pairs, row-words, file-words, file-bytes}
 use Rattle.codec.specs.Keys.{widened, keys-of}
 use Rattle.codec.specs.Seals.{sealed-bytes}
 use Rattle.codec.specs.Words.{Are-words, put-at, words-of, bytes-of}
 use Rattle.codec.specs.Writes.{told-of, writes, file-written, lent-written, lent-keys}
-use Rattle.codec.proofs.EveryLaws.{every-more, every-stop, every-end}
+use Rattle.codec.proofs.BoundLaws.{every-more, every-stop, every-end}
 use Rattle.codec.proofs.FileLaws.{length-file-bytes, length-file-words, row-words-pairs, Fits, fits-from}
 use Rattle.codec.proofs.FileReads.{getD-pairs, length-pairs}
 use Rattle.codec.proofs.KeyLaws.{keys-more}

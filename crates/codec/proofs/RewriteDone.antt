@@ -23,14 +23,14 @@ use Rattle.codec.specs.declared.rewrite.Part.{Part}
 use Rattle.codec.specs.declared.rewrite.Rewrite.{Rewrite}
 use Rattle.codec.specs.declared.rewrite.Rewrite.the-variants.{Whole, Outside, Raised}
 use Rattle.codec.specs.declared.write.Written.{Written}
-use Rattle.codec.specs.Every.{every}
+use Rattle.codec.specs.Bounds.{every}
 use Rattle.codec.specs.Files.{File, file, most-rows, row-fits, file-in, row-words, file-words, file-bytes}
 use Rattle.codec.specs.Keys.{keys-of}
 use Rattle.codec.specs.Rewrites.{fate-of, staying, rewritten, refuses, lies-in, part-in, rows-in, is-source, source-rows, survey-all, new-file, can-rewrite, rewrite-done}
 use Rattle.codec.specs.Seals.{sealed-bytes}
 use Rattle.codec.specs.Words.{Are-words, put-at, bytes-of, words-of}
 use Rattle.codec.specs.Writes.{told-of, writes}
-use Rattle.codec.proofs.EveryLaws.{every-append}
+use Rattle.codec.proofs.BoundLaws.{every-append}
 use Rattle.codec.proofs.FileLaws.{Fits, rows-of-file, length-row-words, length-file-bytes}
 use Rattle.codec.proofs.LentFiles.{writes-no-count, writes-no-room, writes-yes, count-none, count-many}
 use Rattle.codec.proofs.PartLaws.{part-of-put}

@@ -141,17 +141,16 @@ module _ (w : Rewrite) (B : List ℕ) (p t : Part) (k : ℕ) (s : Span) (inside 
           pub put-room : 8 * (3 + 2 * n) + 8 * 2 ≤ t .length
           put-room = omega (arith, one-more, inv .1)
 
-          pub put-stays : (cur′ : List ℕ) (n′ : ℕ) (keys′ : Span) → cur′ ≡ put-at (t .start + 8 * (3 + 2 * n)) (bytes-of (x .key ∷ x .amount ∷ [])) cur → Are-words (x .key ∷ x .amount ∷ []) → n′ ≡ n + 1 → keys′ ≡ widened (x .key) keys
+          pub put-stays : (cur′ pair : List ℕ) (n′ : ℕ) (keys′ : Span) → pair ≡ x .key ∷ x .amount ∷ [] → cur′ ≡ put-at (t .start + 8 * (3 + 2 * n)) (bytes-of pair) cur → Are-words pair → n′ ≡ n + 1 → keys′ ≡ widened (x .key) keys
               → So-far w B p t k s (i + 1) cur′ n′ keys′
-          put-stays cur′ n′ keys′ a b c d =
-              let two = bytes-of (x .key ∷ x .amount ∷ []) in
-              let words : row-words (done (i + 1)) ≡ row-words (done i) ++ (x .key ∷ x .amount ∷ []) = ap row-words longer ∙ row-words-append (done i) (x ∷ []) in (
-                put-on (t .start + 8 * (3 + 2 * k)) (t .start + 8 * (3 + 2 * n)) B cur cur′ (row-words (done i)) (x .key ∷ x .amount ∷ []) (omega (arith, inv .1, length-row-words (done i))) (omega arith) (inv .0) a
+          put-stays cur′ pair n′ keys′ q a b c d =
+              let words : row-words (done (i + 1)) ≡ row-words (done i) ++ pair = ap row-words longer ∙ row-words-append (done i) (x ∷ []) ∙ ap (λ l. row-words (done i) ++ l) (sym q) in (
+                put-on (t .start + 8 * (3 + 2 * k)) (t .start + 8 * (3 + 2 * n)) B cur cur′ (row-words (done i)) pair (omega (arith, inv .1, length-row-words (done i))) (omega arith) (inv .0) a
                     ∙ ap (λ l. put-at (t .start + 8 * (3 + 2 * k)) (bytes-of l) B) (sym words),
                 omega (arith, inv .1, ap length longer, length-push (done i) x),
                 d ∙ ap (widened (x .key)) (inv .2) ∙ sym (widened-push s (done i) x) ∙ ap (widened-by s) (sym longer),
-                subst Are-words (sym words) (all-append (λ v. v < 2 ^ 64) (row-words (done i)) (x .key ∷ x .amount ∷ []) (inv .3) b),
-                ap length a ∙ length-put-at (t .start + 8 * (3 + 2 * n)) two cur (omega (arith, put-room, inv .4, length-bytes-of (x .key ∷ x .amount ∷ []))) ∙ inv .4,
+                subst Are-words (sym words) (all-append (λ v. v < 2 ^ 64) (row-words (done i)) pair (inv .3) b),
+                ap length a ∙ length-put-at (t .start + 8 * (3 + 2 * n)) (bytes-of pair) cur (omega (arith, put-room, inv .4, length-bytes-of pair, ap length q)) ∙ inv .4,
               )
 
     pub put-end : p .length / 16 - 2 ≤ i → rewritten w (take i (rows-in (part-in p B))) ≡ rewritten w (rows-in (part-in p B))

@@ -6,12 +6,12 @@ use mathlib.Core.Bool.{Bool, true, false, cond}
 use native.Mathlib.Omega.{arith}
 use lib.Dec.{eqb, ltb, leb}
 use lib.ListN.{length, take, drop, getD}
-use Rattle.std.specs.shelf.Lists.{All, sum}
+use Rattle.std.specs.shelf.Lists.{sum}
 use Rattle.std.specs.declared.option.Option.{Option}
 use Rattle.std.specs.declared.option.Option.the-variants.{Some, None}
 use Rattle.std.proofs.shelf.Lists.{append-nil, length-take-le, length-push, getD-push, take-at, take-more, take-all}
 use Rattle.std.proofs.shelf.Elements.{all-push, all-take}
-use Rattle.std.proofs.shelf.Tests.{ne-eqb, eq-eqb, le-ltb, lt-ltb, and-parts, eqb-true, ltb-true, le-leb, lt-leb}
+use Rattle.std.proofs.shelf.Tests.{ne-eqb, eq-eqb, le-ltb, lt-ltb, and-parts, eqb-true, ltb-true, leb-true, le-leb, lt-leb}
 use Rattle.codec.specs.Words.{Are-bytes, Are-words, put-at, words, words-of, bytes-of}
 use Rattle.codec.specs.Seals.{sealed, sealed-bytes, unsealed, written}
 use Rattle.codec.proofs.WordLaws.{length-words, length-bytes-of, words-bytes, bytes-words, words-below, put-on, front-words, put-front}
@@ -110,3 +110,11 @@ written-done bs xs cur r h e f = rw (le-leb (length bs) (length xs) h, e, f, put
 
 pub written-not : (bs xs : List ℕ) → length xs < length bs → _≡_ {A = Option ℕ × List ℕ} (None, xs) (written bs xs)
 written-not bs xs h = rw (lt-leb (length bs) (length xs) h)
+
+pub written-some : (bs xs cur : List ℕ) (n : ℕ) → _≡_ {A = Option ℕ × List ℕ} (Some n, cur) (written bs xs) → (length bs ≤ length xs) × (n ≡ length bs) × (cur ≡ bs ++ drop (length bs) xs)
+written-some bs xs cur n e = go (leb (length bs) (length xs)) refl (ap (λ (p : Option ℕ × List ℕ). p .0) e) (ap (λ (p : Option ℕ × List ℕ). p .1) e)
+  where
+    go : (b : Bool) → leb (length bs) (length xs) ≡ b → Some n ≡ cond {A = Option ℕ × List ℕ} b (Some (length bs), bs ++ drop (length bs) xs) (None, xs) .0 → cur ≡ cond {A = Option ℕ × List ℕ} b (Some (length bs), bs ++ drop (length bs) xs) (None, xs) .1
+        → (length bs ≤ length xs) × (n ≡ length bs) × (cur ≡ bs ++ drop (length bs) xs)
+    go true t f g = (leb-true (length bs) (length xs) t, cc, g)
+    go false t f g = absurd (let z : _≡_ {A = ℕ} 0 1 = cc in omega arith)

@@ -15,10 +15,10 @@ use Rattle.std.proofs.shelf.Tests.{and-left, and-right, lt-leb, le-leb}
 use Rattle.rows.specs.declared.row.Row.{Row}
 use Rattle.codec.specs.declared.rewrite.Part.{Part}
 use Rattle.codec.specs.declared.rewrite.Rewrite.{Rewrite}
-use Rattle.codec.specs.Every.{every}
+use Rattle.codec.specs.Bounds.{every}
 use Rattle.codec.specs.Files.{most-rows, file-in}
 use Rattle.codec.specs.Rewrites.{rewritten, refuses, lies-in, apart, part-in, rows-in, is-source, source-rows, survey, survey-all}
-use Rattle.codec.proofs.EveryLaws.{every-more, every-stop, every-end}
+use Rattle.codec.proofs.BoundLaws.{every-more, every-stop, every-end}
 use Rattle.codec.proofs.RewriteLaws.{rewritten-append, refuses-append}
 
 -- what one survey tells

@@ -19,14 +19,14 @@ use Rattle.rows.specs.declared.span.Span.{Span}
 use Rattle.codec.specs.declared.rewrite.Part.{Part}
 use Rattle.codec.specs.declared.rewrite.Rewrite.{Rewrite}
 use Rattle.codec.specs.declared.write.Written.{Written}
-use Rattle.codec.specs.Every.{every}
+use Rattle.codec.specs.Bounds.{every}
 use Rattle.codec.specs.Files.{File, file, most-rows, row-fits, file-in, row-words, file-words, file-bytes}
 use Rattle.codec.specs.Keys.{widened, keys-of}
 use Rattle.codec.specs.Rewrites.{rewritten, refuses, lies-in, apart, part-in, rows-in, is-source, source-rows, survey-all, new-file, can-rewrite, rewrite-done, widened-by}
 use Rattle.codec.specs.Seals.{sealed-bytes}
 use Rattle.codec.specs.Words.{Are-words, put-at, bytes-of, words-of}
 use Rattle.codec.specs.Writes.{told-of, writes}
-use Rattle.codec.proofs.EveryLaws.{every-at}
+use Rattle.codec.proofs.BoundLaws.{every-at}
 use Rattle.codec.proofs.FileLaws.{Fits, length-row-words, row-words-append, length-file-bytes}
 use Rattle.codec.proofs.KeyLaws.{keys-push}
 use Rattle.codec.proofs.LentFiles.{writes-no-count, writes-no-room, writes-yes, count-none, count-many}

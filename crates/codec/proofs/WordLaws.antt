@@ -6,8 +6,8 @@ use native.Mathlib.Omega.{arith}
 use native.Mathlib.Nat.{div-div-eq-div-mul, pow-suc}
 use lib.ListN.{length, take, drop, getD}
 use borrow.Rule.Slice.PartMut.{putMid}
-use Rattle.std.specs.shelf.Lists.{All, sum}
-use Rattle.std.proofs.shelf.Lists.{append-nil, append-assoc, drop-drop, drop-all, drop-at, drop-take, getD-drop, length-append, length-take, length-take-le, length-drop, take-at, take-all, take-append-drop, take-append-le, take-more, take-rest, take-take}
+use Rattle.std.specs.shelf.Lists.{sum}
+use Rattle.std.proofs.shelf.Lists.{append-nil, append-assoc, drop-drop, drop-all, drop-append-le, drop-at, drop-take, getD-drop, length-append, length-take, length-take-le, length-drop, take-at, take-append-drop, take-append-le, take-more, take-rest, take-take}
 use Rattle.std.proofs.shelf.Elements.{all-take, all-drop}
 use Rattle.std.proofs.shelf.Sums.{sumBy-more}
 use Rattle.codec.specs.Words.{Are-bytes, Are-words, le, bytes-le, put-at, bytes-of, words, words-of}
@@ -166,6 +166,40 @@ bytes-words (suc n) xs a h =
     let d : length (drop 8 xs) ≡ 8 * n = length-drop 8 xs ∙ omega arith in
     ap (λ l. l ++ bytes-of (words n (drop 8 xs))) (bytes-le-le 8 (take 8 xs) (all-take (λ b. b < 256) 8 xs a) m)
     ∙ ap (λ l. take 8 xs ++ l) (bytes-words n (drop 8 xs) (all-drop (λ b. b < 256) 8 xs a) d) ∙ take-append-drop 8 xs
+
+-- the numbers of a part of bytes are a part of the numbers
+words-append : (n : ℕ) (xs ys : List ℕ) → 8 * n ≤ length xs → words n (xs ++ ys) ≡ words n xs
+unfolding words
+words-append zero xs ys h = refl
+words-append (suc n) xs ys h =
+    ap (λ l. le l ∷ words n (drop 8 (xs ++ ys))) (take-append-le 8 xs ys (omega arith)) ∙ ap (λ l. le (take 8 xs) ∷ words n l) (drop-append-le 8 xs ys (omega arith))
+    ∙ ap (λ l. le (take 8 xs) ∷ l) (words-append n (drop 8 xs) ys (omega (arith, length-drop 8 xs)))
+
+drop-words : (k m n : ℕ) (xs : List ℕ) → n ≡ k + m → drop k (words n xs) ≡ words m (drop (8 * k) xs)
+unfolding words
+drop-words zero m n xs h = ap (λ j. words j xs) (h ∙ omega arith)
+drop-words (suc k) m zero xs h = absurd (omega arith)
+drop-words (suc k) m (suc n) xs h = drop-words k m n (drop 8 xs) (omega arith) ∙ ap (words m) (drop-drop (8 * k) 8 xs ∙ ap (λ j. drop j xs) (omega arith))
+
+pub words-drop : (a : ℕ) (xs : List ℕ) → 8 * a ≤ length xs → words-of (drop (8 * a) xs) ≡ drop a (words-of xs)
+words-drop a xs h =
+    let n = length-drop (8 * a) xs in
+    sym (drop-words a (length (drop (8 * a) xs) / 8) (length xs / 8) xs (omega arith))
+
+pub words-take : (m : ℕ) (xs : List ℕ) → 8 * m ≤ length xs → words-of (take (8 * m) xs) ≡ take m (words-of xs)
+words-take m xs h =
+    let n = length-take-le (8 * m) xs h in
+    ap (λ j. words j (take (8 * m) xs)) (omega arith) ∙ sym (words-append m (take (8 * m) xs) (drop (8 * m) xs) (omega arith))
+    ∙ ap (words m) (take-append-drop (8 * m) xs) ∙ sym (take-words m (length xs / 8) xs (omega arith))
+
+-- of `&xs[j..j + n]` and `&xs[j..]`
+pub words-part : (xs : List ℕ) (a m j n : ℕ) → j ≡ 8 * a → n ≡ 8 * m → 8 * (a + m) ≤ length xs → words-of (take n (drop j xs)) ≡ take m (drop a (words-of xs))
+words-part xs a m j n e f h =
+    ap (λ i. words-of (take n (drop i xs))) e ∙ ap (λ i. words-of (take i (drop (8 * a) xs))) f
+    ∙ words-take m (drop (8 * a) xs) (omega (arith, length-drop (8 * a) xs)) ∙ ap (take m) (words-drop a xs (omega arith))
+
+pub words-rest : (xs : List ℕ) (a j : ℕ) → j ≡ 8 * a → 8 * a ≤ length xs → words-of (take (length xs - j) (drop j xs)) ≡ drop a (words-of xs)
+words-rest xs a j e h = ap words-of (take-rest xs j) ∙ ap (λ i. words-of (drop i xs)) e ∙ words-drop a xs h
 
 -- one number more of a sum, and of a write
 pub sum-next : (xs : List ℕ) (k t w r : ℕ) → 8 * k + 8 ≤ length xs → t ≡ sum (take k (words-of xs)) % 2 ^ 64 → w ≡ getD (words-of xs) k 0 → r ≡ (t + w) % 2 ^ 64 → r ≡ sum (take (k + 1) (words-of xs)) % 2 ^ 64

@@ -1,21 +1,14 @@
 -- Actions as a kind and three numbers: 0 insert, 1 erase from to, 2 raise from to n, 3 pack m; those not used are 0.
-use Prim.Native.Nat.{ℕ, zero, suc, _^_}
+use Prim.Native.Nat.{ℕ, zero, suc}
 use mathlib.Core.Bool.{Bool, true, cond, _&&_}
 use mathlib.Core.List.{List, [], _∷_}
-use lib.Dec.{eqb, ltb}
+use lib.Dec.{eqb}
 use Rattle.std.specs.declared.option.Option.{Option}
 use Rattle.std.specs.declared.option.Option.the-variants.{Some, None}
 use Rattle.rows.specs.declared.span.Span.{Span}
-use Rattle.rows.specs.Numbers.{key-limit}
 use Rattle.codec.specs.declared.action.Action.{Action}
 use Rattle.codec.specs.declared.action.Action.the-variants.{Insert, Erase, Raise, Pack}
-
--- span ends, what is added, keys and the numbers of files are keys in this sense
-abbrev pub is-key : ℕ → Bool
-is-key n = ltb n key-limit
-
-abbrev pub is-word : ℕ → Bool
-is-word n = ltb n (2 ^ 64)
+use Rattle.codec.specs.Bounds.{is-key, is-word}
 
 abbrev pub span : ℕ → ℕ → Span
 span a b = record { from = a; to = b }

@@ -1,5 +1,5 @@
 -- What an entry says, its bounds, and the numbers and bytes that it is.
-use Prim.Native.Nat.{ℕ, _+_, _*_, _^_}
+use Prim.Native.Nat.{ℕ, _+_, _*_}
 use mathlib.Core.Bool.{Bool, cond, _&&_}
 use mathlib.Core.List.{List, [], _∷_, _++_}
 use lib.Dec.{eqb, ltb, leb}
@@ -16,8 +16,8 @@ use Rattle.codec.specs.declared.action.Action.{Action}
 use Rattle.codec.specs.declared.entry.Added.{Added}
 use Rattle.codec.specs.declared.entry.Change.{Change}
 use Rattle.codec.specs.declared.entry.Entry.{Entry}
-use Rattle.codec.specs.Actions.{span, is-key, is-word, action-words, action-fits, action-in}
-use Rattle.codec.specs.Every.{every}
+use Rattle.codec.specs.Bounds.{is-key, is-word, every}
+use Rattle.codec.specs.Actions.{span, action-words, action-fits, action-in}
 use Rattle.codec.specs.Seals.{sealed-bytes, unsealed, written}
 
 -- what an entry does to one table
@@ -39,7 +39,7 @@ change-of c = record { action = c .action; touched = c .touched; adds = vec-item
 abbrev pub entry-of : Entry → LogEntry
 entry-of e = record { place = e .place; writer = e .writer; serial = e .serial; change = change-of (e .change) }
 
--- bounds
+-- bounds: writers, files, and that every number is written as eight bytes
 abbrev pub writer-limit : ℕ
 writer-limit = 16
 
@@ -77,9 +77,12 @@ entry-words e = e .place ∷ e .writer ∷ e .serial ∷ change-words (e .change
 unfoldable pub entry-bytes : LogEntry → List ℕ
 entry-bytes e = sealed-bytes (entry-words e)
 
--- whether files are in their bounds, and so few that the entry's length fits 64 bits
+-- how many numbers an entry with such files has before its sum, and whether these are in their bounds and its length fits 64 bits
+abbrev pub count-with : List Added → List ℕ → ℕ
+count-with adds takes = 10 + 3 * length adds + length takes
+
 abbrev pub files-writable : List Added → List ℕ → Bool
-files-writable adds takes = files-fit adds takes && is-word (8 * (11 + 3 * length adds + length takes))
+files-writable adds takes = files-fit adds takes && is-word (8 * (count-with adds takes + 1))
 
 -- whether an entry can be written: it is in its bounds, and its length fits 64 bits
 unfoldable pub writable : LogEntry → Bool
@@ -93,15 +96,15 @@ entry-length e = cond (writable e) (Some (length (entry-bytes e))) None
 abbrev pub entry-written : LogEntry → List ℕ → Option ℕ × List ℕ
 entry-written e out = cond (writable e) (written (entry-bytes e) out) (None, out)
 
--- the added files that numbers are
-abbrev pub added : ℕ → ℕ → ℕ → Added
-added n from to = record { number = n; keys = span from to }
+abbrev pub added-of : ℕ → ℕ → ℕ → Added
+added-of n from to = record { number = n; keys = span from to }
 
+-- the added files that numbers are
 abbrev pub adds-in : List ℕ → Option (List Added)
 adds-in [] = Some []
 adds-in (n ∷ []) = None
 adds-in (n ∷ from ∷ []) = None
-adds-in (n ∷ from ∷ to ∷ ws) = cond (added-fits (added n from to)) (mapped (λ adds. added n from to ∷ adds) (adds-in ws)) None
+adds-in (n ∷ from ∷ to ∷ ws) = cond (added-fits (added-of n from to)) (mapped (λ adds. added-of n from to ∷ adds) (adds-in ws)) None
 
 -- the numbers of taken files, each below its limit
 abbrev pub takes-in : List ℕ → Option (List ℕ)

@@ -11,8 +11,8 @@ use Rattle.rows.specs.Checks.{some-else}
 use Rattle.rows.specs.Numbers.{row}
 use Rattle.rows.specs.Rows.{amount-limit}
 use Rattle.codec.specs.declared.file.Head.{Head}
-use Rattle.codec.specs.Actions.{is-key, is-word}
-use Rattle.codec.specs.Every.{every}
+use Rattle.codec.specs.Bounds.{is-key, is-word}
+use Rattle.codec.specs.Bounds.{every}
 use Rattle.codec.specs.Seals.{sealed-bytes, unsealed}
 
 pub record File : Type 0 where

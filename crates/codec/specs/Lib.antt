@@ -1,4 +1,4 @@
-pub mod Every
+pub mod Bounds
 pub mod Words
 pub mod Seals
 pub mod Actions

@@ -18,7 +18,7 @@ use Rattle.codec.specs.declared.rewrite.Part.{Part}
 use Rattle.codec.specs.declared.rewrite.Rewrite.{Rewrite}
 use Rattle.codec.specs.declared.rewrite.Rewrite.the-variants.{Whole, Outside, Raised}
 use Rattle.codec.specs.declared.write.Written.{Written}
-use Rattle.codec.specs.Every.{every}
+use Rattle.codec.specs.Bounds.{every}
 use Rattle.codec.specs.Files.{File, file, most-rows, file-bytes, file-in}
 use Rattle.codec.specs.Keys.{widened}
 use Rattle.codec.specs.Words.{put-at}

@@ -9,7 +9,7 @@ use Rattle.std.specs.declared.option.Option.the-variants.{Some, None}
 use Rattle.rows.specs.declared.row.Row.{Row}
 use Rattle.rows.specs.declared.span.Span.{Span}
 use Rattle.codec.specs.declared.write.Written.{Written}
-use Rattle.codec.specs.Every.{every}
+use Rattle.codec.specs.Bounds.{every}
 use Rattle.codec.specs.Files.{File, file, row-fits, file-fits, pairs, file-bytes}
 use Rattle.codec.specs.Keys.{keys-of}
 

@@ -6,8 +6,8 @@ use rows::span::Span;
 use rows::span::SpanDebug;
 use rows::span::SpanPartialEq;
 
-// Span ends and what is added stay below 2^32.
-const KEY_LIMIT: u64 = 4294967296;
+// Keys, the numbers of files and what a raise adds stay below 2^32.
+pub(crate) const KEY_LIMIT: u64 = 4294967296;
 
 // An order without its rows: the files that an entry adds have them.
 #[derive(Clone, Copy, PartialEq, Eq, Debug)]

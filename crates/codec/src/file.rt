@@ -3,7 +3,7 @@ ghost use mathlib.Core.Path.{_≡_};
 ghost use Prim.Native.Nat.{_+_, _*_};
 ghost use lib.ListN.{length, take, drop};
 ghost use Rattle.std.specs.Options.{mapped};
-ghost use Rattle.codec.specs.Every.{every};
+ghost use Rattle.codec.specs.Bounds.{every};
 ghost use Rattle.codec.specs.Words.{words-of};
 ghost use Rattle.codec.specs.Files.{row-fits, pairs, head-from, head-in, head-of, file-in, row-of, row-in};
 use crate::seal::unseal;

@@ -6,7 +6,7 @@ ghost use Prim.Native.Nat.{_+_, _*_, _%_, _^_, _≤_};
 ghost use lib.ListN.{length, take};
 ghost use Rattle.std.specs.shelf.Lists.{sum};
 ghost use Rattle.std.specs.Options.{isSome};
-ghost use Rattle.codec.specs.Every.{every};
+ghost use Rattle.codec.specs.Bounds.{every};
 ghost use Rattle.codec.specs.Files.{file-in, row-words};
 ghost use Rattle.codec.specs.Words.{Are-words, put-at, bytes-of, words-of};
 ghost use Rattle.codec.specs.Keys.{keys-of};
@@ -154,6 +154,12 @@ fn put_in_part(bytes: &mut [u8], part: Part, k: usize, words: &[u64])
     put_words(&mut bytes[start..end], k, words);
 }
 
+fn row_words(row: Row) -> [u64; 2]
+    ensures { λ r. ⌜ r ≡ row .key ∷ row .amount ∷ [] ⌝ }
+{
+    [row.key as u64, row.amount]
+}
+
 // What was written so far: how many rows, and their keys.
 #[derive(Clone, Copy)]
 struct Progress {
@@ -184,7 +190,7 @@ fn put_rows(
         let to = from + source.length;
         if let Some(row) = row_at(&bytes[from..to], i) {
             if let Fate::Stays(row) = fate_of(rewrite, row) {
-                put_in_part(bytes, target, 3 + 2 * count, &[row.key as u64, row.amount]);
+                put_in_part(bytes, target, 3 + 2 * count, &row_words(row));
                 count += 1;
                 keys = widened(keys, row.key);
             }

@@ -1,6 +1,6 @@
 use mathlib.Core.Path.{_≡_}
 use lib.ListN.{drop}
-use Rattle.codec.specs.Every.{every}
+use Rattle.codec.specs.Bounds.{every}
 use Rattle.codec.specs.Entries.{added-fits}
 use Rattle.codec.proofs.entry.files_words.Given as given
 

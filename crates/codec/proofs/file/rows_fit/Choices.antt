@@ -1,6 +1,6 @@
 use mathlib.Core.Path.{_≡_}
 use lib.ListN.{drop}
-use Rattle.codec.specs.Every.{every}
+use Rattle.codec.specs.Bounds.{every}
 use Rattle.codec.specs.Files.{row-fits}
 use Rattle.codec.proofs.FileReads.{rows-at}
 use Rattle.codec.proofs.file.rows_fit.Given as given

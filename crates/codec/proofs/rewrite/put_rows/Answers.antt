@@ -36,8 +36,8 @@ pub put-in-part-requires : need.put-in-part-requires
 put-in-part-requires c κs =
     record {
       inside = omega (arith, c .loop-i .inv .4, c .pre .inside);
-      room = put-room (c .args .rewrite) (c .args .bytes .now) (c .args .source) (c .args .target) (c .args .start .count) (c .args .start .keys) (c .pre .inside) (c .pre .valid) (c .pre .room)
-          (c .loop-i .i) (c .loop-i .bytes) (c .loop-i .count) (c .loop-i .keys) (c .loop-i .inv) (omega arith) (c .in-Some .row) (c .in-Some .ensures tt) (c .in-Stays .row) (c .in-Stays .ensures tt);
+      room = let room = put-room (c .args .rewrite) (c .args .bytes .now) (c .args .source) (c .args .target) (c .args .start .count) (c .args .start .keys) (c .pre .inside) (c .pre .valid) (c .pre .room)
+          (c .loop-i .i) (c .loop-i .bytes) (c .loop-i .count) (c .loop-i .keys) (c .loop-i .inv) (omega arith) (c .in-Some .row) (c .in-Some .ensures tt) (c .in-Stays .row) (c .in-Stays .ensures tt) in omega (arith, room, ap length (c .row-words .ensures));
     }
 
 pub loop-i-again : need.loop-i-again
@@ -46,7 +46,7 @@ loop-i-again c =
       | in-Some·in-Stays w ↦
           put-stays (c .args .rewrite) (c .args .bytes .now) (c .args .source) (c .args .target) (c .args .start .count) (c .args .start .keys) (c .pre .inside) (c .pre .valid) (c .pre .room)
           (c .loop-i .i) (c .loop-i .bytes) (c .loop-i .count) (c .loop-i .keys) (c .loop-i .inv) (omega arith) (w .in-Some .row) (w .in-Some .ensures tt) (w .in-Stays .row) (w .in-Stays .ensures tt)
-          (c .match-row-at .bytes) (c .match-row-at .count) (c .match-row-at .keys) (w .bytes-is ∙ w .put-in-part .ensures .after) (w .put-in-part .ensures .fit) (w .count-is) (w .keys-is ∙ w .widened-keys .ensures)
+          (c .match-row-at .bytes) (w .row-words .result) (c .match-row-at .count) (c .match-row-at .keys) (w .row-words .ensures) (w .bytes-is ∙ w .put-in-part .ensures .after) (w .put-in-part .ensures .fit) (w .count-is) (w .keys-is ∙ w .widened-keys .ensures)
       | in-Some·in-rest-fate-of w ↦
           put-goes (c .args .rewrite) (c .args .bytes .now) (c .args .source) (c .args .target) (c .args .start .count) (c .args .start .keys) (c .pre .inside) (c .pre .valid) (c .pre .room)
           (c .loop-i .i) (c .loop-i .bytes) (c .loop-i .count) (c .loop-i .keys) (c .loop-i .inv) (omega arith) (w .in-Some .row) (w .in-Some .ensures tt)

@@ -1,6 +1,6 @@
 use mathlib.Core.Path.{_≡_}
 use lib.ListN.{take, drop}
-use Rattle.codec.specs.Every.{every}
+use Rattle.codec.specs.Bounds.{every}
 use Rattle.codec.specs.Files.{row-fits, pairs}
 use Rattle.codec.specs.Keys.{keys-of}
 use Rattle.codec.proofs.write.lent_keys.Given as given
