@@ -5,7 +5,7 @@ pub mod Actions
 pub mod Entries
 pub mod EntryLaws
 pub mod Files
-pub mod FileLaws
 pub mod Keys
+pub mod FileLaws
 pub mod Writes
 pub mod Rewrites

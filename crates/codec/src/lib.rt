@@ -1,6 +1,6 @@
 // Files and entries as bytes.
 ghost use Rattle.codec.specs.EntryLaws.{Entries-come-back, Entries-are-one};
-ghost use Rattle.codec.specs.FileLaws.{Files-come-back, Files-are-one, Rows-are-there};
+ghost use Rattle.codec.specs.FileLaws.{Files-come-back, Files-are-one, Rows-are-there, Keys-are-the-ends};
 
 pub mod action;
 pub mod entry;
@@ -41,6 +41,13 @@ pub fn files_are_one() -> u8
 // The rows of a file are found where they lie, and no others.
 pub fn rows_are_there() -> u8
     ensures { λ _. ⌜ Rows-are-there ⌝ }
+{
+    0
+}
+
+// Every key of some rows lies between their keys, and no smaller span has them all.
+pub fn keys_are_the_ends() -> u8
+    ensures { λ _. ⌜ Keys-are-the-ends ⌝ }
 {
     0
 }
