@@ -1,6 +1,7 @@
 // The object store: files under numbers and entries under places, in memory that the caller lends.
 ghost use Prim.Native.Nat.{_≤_};
 
+pub mod files;
 pub mod log;
 pub mod opening;
 
