@@ -21,7 +21,7 @@ use Rattle.codec.specs.Entries.{LogEntry, entry-of, entry-in, entry-bytes, writ
 use Rattle.codec.specs.Words.{put-at}
 use Rattle.codec.proofs.WordLaws.{lent-on}
 use borrow.Rule.Slice.PartMut.{putMid}
-use Rattle.store.specs.declared.log.Unput.{Unput}
+use Rattle.store.specs.declared.unput.Unput.{Unput}
 use Rattle.store.specs.Log.{log-end, bounds-of, entry-placed, entry-at, place-for, Log, put-there, put-entry}
 
 module _ (count : ℕ) (ends log : List ℕ) (k : ℕ) where

@@ -1,3 +1,4 @@
 pub mod Opening
 pub mod Log
 pub mod Slots
+pub mod Putting

@@ -13,8 +13,8 @@ use Rattle.rows.specs.declared.refusal.Refusal.the-variants.{LogFull, NoRoom}
 use Rattle.codec.specs.Entries.{LogEntry, entry-in, entry-bytes, entry-length}
 use Rattle.codec.specs.Words.{put-at}
 use Rattle.store.specs.declared.Store.{Store}
-use Rattle.store.specs.declared.log.Unput.{Unput}
-use Rattle.store.specs.declared.log.Unput.the-variants.{Refused, OtherPlace, OutOfBounds}
+use Rattle.store.specs.declared.unput.Unput.{Unput}
+use Rattle.store.specs.declared.unput.Unput.the-variants.{Refused, OtherPlace, OutOfBounds}
 
 -- where the first so many entries end
 abbrev pub log-end : List ℕ → ℕ → Option ℕ

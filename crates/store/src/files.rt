@@ -19,13 +19,13 @@ pub struct Stored {
 }
 
 impl Store {
-    fn slot_size(&self) -> usize
+    pub(crate) fn slot_size(&self) -> usize
         ensures { λ r. ⌜ r ≡ slot-size (now (self .entry) .«most_rows») ⌝ }
     {
         8 * (4 + 2 * self.most_rows as usize)
     }
 
-    fn slots(&self, directory: &[u64], files: &[u8]) -> usize
+    pub(crate) fn slots(&self, directory: &[u64], files: &[u8]) -> usize
         ensures { λ r. ⌜ r ≡ slots (now (self .entry) .«most_rows») (length (now (directory .entry))) (length (now (files .entry))) ⌝ }
     {
         let in_directory = directory.len() / 2;
@@ -34,7 +34,7 @@ impl Store {
 }
 
 // The first of so many slots with a mark.
-fn slot_with(directory: &[u64], slots: usize, mark: u64) -> Option<usize>
+pub(crate) fn slot_with(directory: &[u64], slots: usize, mark: u64) -> Option<usize>
     requires { ⌜ 2 * slots ≤ length (now directory) ⌝ }
     ensures { λ r. ⌜ r ≡ slot-with (now (directory .entry)) slots mark ⌝ }
 {

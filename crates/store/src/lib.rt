@@ -4,6 +4,8 @@ ghost use Prim.Native.Nat.{_≤_};
 pub mod files;
 pub mod log;
 pub mod opening;
+mod putting;
+pub mod unput;
 
 // What a store owns: its numbers. The four slices that hold files and entries go beside it.
 #[derive(Clone, Copy)]

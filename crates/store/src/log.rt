@@ -6,14 +6,13 @@ ghost use Rattle.codec.specs.Entries.{entry-of, entry-read};
 ghost use Rattle.std.specs.declared.result.Result.the-variants.{Ok};
 ghost use Rattle.store.specs.Log.{log-end, bounds-of, next-start, bytes-left, place-for, entry-at, log-of, put-entry};
 use crate::Store;
+use crate::unput::Unput;
 use codec::entry::Entry;
 use codec::entry::entry_length;
 use codec::entry::read_entry;
 use codec::entry::write_entry;
 use rows::refusal::LOG_LIMIT;
 use rows::refusal::Refusal;
-use rows::refusal::RefusalDebug;
-use rows::refusal::RefusalPartialEq;
 use std::alloc::Global;
 
 // Where the first `count` entries end.
@@ -47,17 +46,6 @@ fn bounds_of(ends: &[u64], log: &[u8], place: usize) -> Option<(usize, usize)>
         return None;
     }
     Some((start as usize, end as usize))
-}
-
-// Why an entry was not put.
-#[derive(Clone, Copy, PartialEq, Eq, Debug)]
-pub enum Unput {
-    // The log is full, or has no room for the entry.
-    Refused(Refusal),
-    // The entry bears another place than the next.
-    OtherPlace,
-    // The entry is out of its bounds.
-    OutOfBounds,
 }
 
 // Where the next entry goes, if there is a place for its end and the log reaches so far.
