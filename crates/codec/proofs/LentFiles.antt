@@ -11,7 +11,7 @@ use Rattle.std.specs.declared.option.Option.{Option}
 use Rattle.std.specs.declared.option.Option.the-variants.{Some, None}
 use Rattle.std.proofs.shelf.Elements.{all-append}
 use Rattle.std.proofs.shelf.Lists.{take-all}
-use Rattle.std.proofs.shelf.Tests.{and-left, and-right, and-from, eq-eqb, le-leb, lt-leb, le-ltb, lt-ltb}
+use Rattle.std.proofs.shelf.Tests.{and-parts, and-left, and-right, and-from, eq-eqb, le-leb, leb-true, lt-leb, le-ltb, lt-ltb}
 use Rattle.std.proofs.shelf.Ways.{tells}
 use Rattle.rows.specs.declared.row.Row.{Row}
 use Rattle.rows.specs.declared.span.Span.{Span}
@@ -94,6 +94,10 @@ module _ (f : File) (room : ℕ) where
   pub writes-yes : Fits f → 8 * (4 + 2 * length (f .rows)) ≤ room → writes f room ≡ true
   unfolding writes
   writes-yes h r = and-from _ _ (fits-from f h) (le-leb (length (file-bytes f)) room (omega (arith, length-file-bytes f)))
+
+pub writes-room : (f : File) (room : ℕ) → writes f room ≡ true → length (file-bytes f) ≤ room
+unfolding writes
+writes-room f room e = leb-true _ _ (and-parts (file-fits f) _ e .1)
 
 pub count-none : (n : ℕ) → n ≡ 0 → count-fits n ≡ false
 count-none n h = and-left _ _ (le-ltb 0 n (omega arith))

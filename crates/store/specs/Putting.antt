@@ -1,5 +1,6 @@
 -- Files put into the first free slot, under the next number.
 use Prim.Native.Nat.{ℕ, _+_, _*_, _%_, _^_}
+use mathlib.Core.Path.{_≡_}
 use mathlib.Core.Bool.{Bool, cond, _&&_}
 use mathlib.Core.List.{List}
 use lib.Dec.{eqb, ltb}
@@ -30,8 +31,8 @@ no-room next directory n = Err (Refused (NoRoom (room-for next directory n)))
 abbrev pub next-slot : ℕ → List ℕ → ℕ → Result ℕ Unput
 next-slot next directory n =
     cond (ltb next (2 ^ 32))
-        (some-else (slot-with directory n (next + 1)) (some-else (slot-with directory n 0) (no-room next directory n) (λ i. Ok i)) (λ _. Err NumberTaken))
-        (no-room next directory n)
+    (some-else (slot-with directory n (next + 1)) (some-else (slot-with directory n 0) (no-room next directory n) (λ i. Ok i)) (λ _. Err NumberTaken))
+    (no-room next directory n)
 
 -- the files of a store: how many rows they may have, the next number, and both slices
 pub record Files : Type 0 where
@@ -50,9 +51,10 @@ slot-part most i = record { start = i * slot-size most; length = slot-size most 
 -- what is told of a file that was written into a slot, and the store afterwards
 abbrev pub in-slot : Files → ℕ → Option Written × List ℕ → Result Added Unput × Files
 in-slot s i w =
-    some-else {B = Result Added Unput × Files} (w .0) (Err OutOfBounds, s) (λ told.
-        (Ok (record { number = s .next; keys = told .keys }),
-         record { most = s .most; next = s .next + 1; directory = set (set (s .directory) (2 * i) (s .next + 1)) (1 + 2 * i) (told .length); bytes = w .1 }))
+    some-else {B = Result Added Unput × Files} (w .0) (Err OutOfBounds, s) (λ told. (
+      Ok (record { number = s .next; keys = told .keys }),
+      record { most = s .most; next = s .next + 1; directory = set (set (s .directory) (2 * i) (s .next + 1)) (1 + 2 * i) (told .length); bytes = w .1 },
+    ))
 
 abbrev pub put-by : Files → (ℕ → Option Written × List ℕ) → Result ℕ Unput → Result Added Unput × Files
 put-by s write (Ok i) = in-slot s i (write i)
@@ -71,3 +73,7 @@ put-rows began lent s = put-by s (λ i. lent-in (s .next) began lent (slot-part 
 
 unfoldable pub put-rewritten : ℕ → List Part → Rewrite → Files → Result Added Unput × Files
 put-rewritten began sources w s = put-by s (λ i. rewrite-done w (s .bytes) sources (slot-part (s .most) i) (s .next) began) (slot-of s)
+
+-- a put of a file leaves the other numbers
+abbrev pub Same-but-next : Store → Store → Type 0
+Same-but-next s t = (t .horizon ≡ s .horizon) × (t .entries ≡ s .entries) × (t .«most_rows» ≡ s .«most_rows»)
