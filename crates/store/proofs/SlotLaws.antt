@@ -2,7 +2,7 @@
 use Prim.Native.Nat.{ℕ, zero, suc, _+_, _-_, _*_, _/_, _≤_, _<_}
 use mathlib.Core.Path.{_≡_, refl, sym, _∙_, ap}
 use mathlib.Core.Bool.{Bool, true, false, cond}
-use mathlib.Core.List.{List, []}
+use mathlib.Core.List.{List, [], _∷_, _++_}
 use native.Mathlib.Nat.{mul-le-mul-right, div-mul-le-self}
 use native.Mathlib.Numerals.{add-one}
 use native.Mathlib.Omega.{arith}
@@ -10,7 +10,7 @@ use lib.Dec.{eqb}
 use lib.ListN.{length, take, drop, getD, set}
 use Rattle.std.specs.declared.option.Option.{Option}
 use Rattle.std.specs.declared.option.Option.the-variants.{Some, None}
-use Rattle.std.proofs.shelf.Lists.{getD-set-other, length-set}
+use Rattle.std.proofs.shelf.Lists.{append-nil, getD-set-other, length-set}
 use Rattle.std.proofs.shelf.Tests.{eq-eqb, ne-eqb, le-leb, lt-leb}
 use Rattle.std.specs.Options.{mapped}
 use Rattle.rows.specs.Checks.{some-else}
@@ -19,7 +19,7 @@ use Rattle.codec.specs.declared.rewrite.Part.{Part}
 use Rattle.codec.specs.Files.{File, head-of, file-from, file-in}
 use Rattle.codec.proofs.SealLaws.{unsealed-empty}
 use Rattle.store.specs.declared.files.Stored.{Stored}
-use Rattle.store.specs.Slots.{slot-size, slots, mark-at, length-at, stored-at, stored, first-from, slot-with, free-below, freed}
+use Rattle.store.specs.Slots.{slot-size, slots, mark-at, length-at, stored-at, stored, first-from, slot-with, free-below, numbers-below, freed}
 
 -- a search from the first slot on
 module _ (p : ℕ → Bool) (n i : ℕ) (h : i < n) where
@@ -62,6 +62,21 @@ slot-inside most marks bytes i h =
 -- counting free slots
 pub free-more : (d : List ℕ) (i : ℕ) → free-below d (i + 1) ≡ free-below d i + cond (eqb (mark-at d i) 0) 1 0
 free-more d i = ap (free-below d) (add-one i)
+
+-- listing slots that are not free
+module _ (d : List ℕ) (i : ℕ) (old new : List ℕ) (inv : old ≡ numbers-below d i) where
+  numbers-step : numbers-below d (i + 1) ≡ numbers-below d i ++ cond (eqb (mark-at d i) 0) [] ((mark-at d i - 1) ∷ [])
+  numbers-step = ap (numbers-below d) (add-one i)
+
+  pub numbers-listed : 0 < mark-at d i → new ≡ old ++ (mark-at d i - 1) ∷ [] → new ≡ numbers-below d (i + 1)
+  numbers-listed h e =
+      e ∙ ap (λ l. l ++ (mark-at d i - 1) ∷ []) inv
+      ∙ ap (λ b. numbers-below d i ++ cond b [] ((mark-at d i - 1) ∷ [])) (sym (ne-eqb (mark-at d i) 0 (λ z. omega arith))) ∙ sym numbers-step
+
+  pub numbers-passed : mark-at d i ≤ 0 → new ≡ old → new ≡ numbers-below d (i + 1)
+  numbers-passed h e =
+      e ∙ inv ∙ sym (append-nil (numbers-below d i))
+      ∙ ap (λ b. numbers-below d i ++ cond b [] ((mark-at d i - 1) ∷ [])) (sym (eq-eqb (mark-at d i) 0 (omega arith))) ∙ sym numbers-step
 
 -- freeing slots from the first on
 pub length-freed : (d : List ℕ) (x n : ℕ) → length (freed d x n) ≡ length d

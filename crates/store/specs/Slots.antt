@@ -4,6 +4,12 @@ use mathlib.Core.Bool.{Bool, cond, _&&_}
 use mathlib.Core.List.{List, [], _∷_, _++_}
 use lib.Dec.{eqb, leb, ltb}
 use lib.ListN.{length, take, drop, getD, set}
+use Rattle.std.specs.Of.Vec.{vec-items}
+use Rattle.std.specs.declared.alloc.Global.{Global}
+use Rattle.std.specs.declared.result.Result.{Result}
+use Rattle.std.specs.declared.result.Result.the-variants.{Ok, Err}
+use Rattle.std.specs.declared.vec.Vec.{Vec}
+use Rattle.rows.specs.declared.refusal.Refusal.{Refusal}
 use Rattle.std.specs.declared.option.Option.{Option}
 use Rattle.std.specs.declared.option.Option.the-variants.{Some, None}
 use Rattle.rows.specs.Checks.{some-else}
@@ -65,3 +71,8 @@ numbers-below directory (suc n) = numbers-below directory n ++ cond (eqb (mark-a
 abbrev pub freed : List ℕ → ℕ → ℕ → List ℕ
 freed directory mark zero = directory
 freed directory mark (suc n) = cond (eqb (mark-at directory n) mark) (set (freed directory mark n) (2 * n) 0) (freed directory mark n)
+
+-- what the code lists
+abbrev pub items-of : {A : Type 0} → Result (Vec A Global) Refusal → Result (List A) Refusal
+items-of (Ok v) = Ok (vec-items v)
+items-of (Err e) = Err e

@@ -2,11 +2,16 @@
 ghost use mathlib.Core.Path.{_≡_};
 ghost use Prim.Native.Nat.{_+_, _*_, _≤_, _<_};
 ghost use lib.ListN.{length};
-ghost use Rattle.store.specs.Slots.{slot-size, slots, slot-with, free-below, room-for, stored-at, stored, freed};
+ghost use Rattle.std.specs.declared.result.Result.the-variants.{Ok};
+ghost use Rattle.rows.specs.Refusals.{Unless-out};
+ghost use Rattle.store.specs.Slots.{numbers-below, items-of, slot-size, slots, slot-with, free-below, room-for, stored-at, stored, freed};
 use crate::Store;
 use codec::file::Head;
 use codec::file::read_file;
 use codec::rewrite::Part;
+use rows::refusal::Refusal;
+use rows::refusal::RefusalFromRefused;
+use std::alloc::Global;
 
 // File numbers stay below 2^32.
 const NUMBER_LIMIT: u64 = 4294967296;
@@ -117,5 +122,19 @@ impl Store {
                 directory[2 * i] = 0;
             }
         }
+    }
+
+    // The numbers of the files, in the order of their slots.
+    pub fn files(&self, heap: Global, directory: &[u64], files: &[u8]) -> Result<Vec<u64>, Refusal>
+        ensures { λ r. ⌜ Unless-out r (items-of r ≡ Ok (numbers-below (now (directory .entry)) (slots (now (self .entry) .«most_rows») (length (now (directory .entry))) (length (now (files .entry)))))) ⌝ }
+    {
+        let mut numbers = Vec::new(heap);
+        for i in 0..self.slots(directory, files) {
+            let mark = directory[2 * i];
+            if mark > 0 {
+                numbers.push(mark - 1)?;
+            }
+        }
+        Ok(numbers)
     }
 }
