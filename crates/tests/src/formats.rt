@@ -40,248 +40,42 @@ const KEYS: u64 = 4294967296;
 const AMOUNTS: u64 = 1099511627776;
 
 // 258 7 2 1 5 70000 1000000 and the sum 1070273.
-const FILE: [u8; 64] = [
-    0x02,
-    0x01,
-    0x00,
-    0x00,
-    0x00,
-    0x00,
-    0x00,
-    0x00, //
-    0x07,
-    0x00,
-    0x00,
-    0x00,
-    0x00,
-    0x00,
-    0x00,
-    0x00, //
-    0x02,
-    0x00,
-    0x00,
-    0x00,
-    0x00,
-    0x00,
-    0x00,
-    0x00, //
-    0x01,
-    0x00,
-    0x00,
-    0x00,
-    0x00,
-    0x00,
-    0x00,
-    0x00, //
-    0x05,
-    0x00,
-    0x00,
-    0x00,
-    0x00,
-    0x00,
-    0x00,
-    0x00, //
-    0x70,
-    0x11,
-    0x01,
-    0x00,
-    0x00,
-    0x00,
-    0x00,
-    0x00, //
-    0x40,
-    0x42,
-    0x0f,
-    0x00,
-    0x00,
-    0x00,
-    0x00,
-    0x00, //
-    0xc1,
-    0x54,
-    0x10,
-    0x00,
-    0x00,
-    0x00,
-    0x00,
-    0x00, //
-];
+const FILE: &[u8; 64] = b"\
+    \x02\x01\x00\x00\x00\x00\x00\x00\
+    \x07\x00\x00\x00\x00\x00\x00\x00\
+    \x02\x00\x00\x00\x00\x00\x00\x00\
+    \x01\x00\x00\x00\x00\x00\x00\x00\
+    \x05\x00\x00\x00\x00\x00\x00\x00\
+    \x70\x11\x01\x00\x00\x00\x00\x00\
+    \x40\x42\x0f\x00\x00\x00\x00\x00\
+    \xc1\x54\x10\x00\x00\x00\x00\x00";
 
 // 259 8 1 70000 1000000 and the sum 1070268: what stays of FILE without its first row.
-const REST: [u8; 48] = [
-    0x03,
-    0x01,
-    0x00,
-    0x00,
-    0x00,
-    0x00,
-    0x00,
-    0x00, //
-    0x08,
-    0x00,
-    0x00,
-    0x00,
-    0x00,
-    0x00,
-    0x00,
-    0x00, //
-    0x01,
-    0x00,
-    0x00,
-    0x00,
-    0x00,
-    0x00,
-    0x00,
-    0x00, //
-    0x70,
-    0x11,
-    0x01,
-    0x00,
-    0x00,
-    0x00,
-    0x00,
-    0x00, //
-    0x40,
-    0x42,
-    0x0f,
-    0x00,
-    0x00,
-    0x00,
-    0x00,
-    0x00, //
-    0xbc,
-    0x54,
-    0x10,
-    0x00,
-    0x00,
-    0x00,
-    0x00,
-    0x00, //
-];
+const REST: &[u8; 48] = b"\
+    \x03\x01\x00\x00\x00\x00\x00\x00\
+    \x08\x00\x00\x00\x00\x00\x00\x00\
+    \x01\x00\x00\x00\x00\x00\x00\x00\
+    \x70\x11\x01\x00\x00\x00\x00\x00\
+    \x40\x42\x0f\x00\x00\x00\x00\x00\
+    \xbc\x54\x10\x00\x00\x00\x00\x00";
 
 // 2 11 300 2 4 9 100 1 1 1 5 1 70000 3 and the sum 70440.
-const ENTRY: [u8; 120] = [
-    0x02,
-    0x00,
-    0x00,
-    0x00,
-    0x00,
-    0x00,
-    0x00,
-    0x00, //
-    0x0b,
-    0x00,
-    0x00,
-    0x00,
-    0x00,
-    0x00,
-    0x00,
-    0x00, //
-    0x2c,
-    0x01,
-    0x00,
-    0x00,
-    0x00,
-    0x00,
-    0x00,
-    0x00, //
-    0x02,
-    0x00,
-    0x00,
-    0x00,
-    0x00,
-    0x00,
-    0x00,
-    0x00, //
-    0x04,
-    0x00,
-    0x00,
-    0x00,
-    0x00,
-    0x00,
-    0x00,
-    0x00, //
-    0x09,
-    0x00,
-    0x00,
-    0x00,
-    0x00,
-    0x00,
-    0x00,
-    0x00, //
-    0x64,
-    0x00,
-    0x00,
-    0x00,
-    0x00,
-    0x00,
-    0x00,
-    0x00, //
-    0x01,
-    0x00,
-    0x00,
-    0x00,
-    0x00,
-    0x00,
-    0x00,
-    0x00, //
-    0x01,
-    0x00,
-    0x00,
-    0x00,
-    0x00,
-    0x00,
-    0x00,
-    0x00, //
-    0x01,
-    0x00,
-    0x00,
-    0x00,
-    0x00,
-    0x00,
-    0x00,
-    0x00, //
-    0x05,
-    0x00,
-    0x00,
-    0x00,
-    0x00,
-    0x00,
-    0x00,
-    0x00, //
-    0x01,
-    0x00,
-    0x00,
-    0x00,
-    0x00,
-    0x00,
-    0x00,
-    0x00, //
-    0x70,
-    0x11,
-    0x01,
-    0x00,
-    0x00,
-    0x00,
-    0x00,
-    0x00, //
-    0x03,
-    0x00,
-    0x00,
-    0x00,
-    0x00,
-    0x00,
-    0x00,
-    0x00, //
-    0x28,
-    0x13,
-    0x01,
-    0x00,
-    0x00,
-    0x00,
-    0x00,
-    0x00, //
-];
+const ENTRY: &[u8; 120] = b"\
+    \x02\x00\x00\x00\x00\x00\x00\x00\
+    \x0b\x00\x00\x00\x00\x00\x00\x00\
+    \x2c\x01\x00\x00\x00\x00\x00\x00\
+    \x02\x00\x00\x00\x00\x00\x00\x00\
+    \x04\x00\x00\x00\x00\x00\x00\x00\
+    \x09\x00\x00\x00\x00\x00\x00\x00\
+    \x64\x00\x00\x00\x00\x00\x00\x00\
+    \x01\x00\x00\x00\x00\x00\x00\x00\
+    \x01\x00\x00\x00\x00\x00\x00\x00\
+    \x01\x00\x00\x00\x00\x00\x00\x00\
+    \x05\x00\x00\x00\x00\x00\x00\x00\
+    \x01\x00\x00\x00\x00\x00\x00\x00\
+    \x70\x11\x01\x00\x00\x00\x00\x00\
+    \x03\x00\x00\x00\x00\x00\x00\x00\
+    \x28\x13\x01\x00\x00\x00\x00\x00";
 
 fn span(from: u32, to: u32) -> Span {
     Span { from, to }
@@ -311,23 +105,23 @@ fn holds(memory: &[u8], before: &[u8], at: usize, bytes: &[u8]) -> bool {
 #[test]
 fn a_file_reads_as_its_head_and_rows() -> Result<(), Fail> {
     check_eq(
-        read_file(&FILE),
+        read_file(FILE),
         Some(Head {
             number: 258,
             began: 7,
             count: 2,
         }),
     )?;
-    check_eq(row_at(&FILE, 0), Some(Row { key: 1, amount: 5 }))?;
+    check_eq(row_at(FILE, 0), Some(Row { key: 1, amount: 5 }))?;
     check_eq(
-        row_at(&FILE, 1),
+        row_at(FILE, 1),
         Some(Row {
             key: 70000,
             amount: 1000000,
         }),
     )?;
-    check_eq(row_at(&FILE, 2), None)?;
-    check_eq(row_at(&FILE, usize::MAX), None)
+    check_eq(row_at(FILE, 2), None)?;
+    check_eq(row_at(FILE, usize::MAX), None)
 }
 
 #[test]
@@ -341,7 +135,7 @@ fn a_file_is_written_as_its_bytes_and_no_others() -> Result<(), Fail> {
             keys: span(1, 70000),
         }),
     )?;
-    check(holds(&memory, &before, 0, &FILE))
+    check(holds(&memory, &before, 0, FILE))
 }
 
 // Whether a write of these rows to the first bytes of memory, so many of them, is none.
@@ -368,10 +162,10 @@ fn what_is_no_file_is_not_written() -> Result<(), Fail> {
     check(!is_not_written(&[KEYS - 1, AMOUNTS - 1], 80))
 }
 
-// Whether the file is none once the number at a place is one more, and once it is one less. No number of it carries over its lowest byte.
+// Whether the file is none once the number at a place is one more, and once it is one less. Each time only the lowest byte of the number changes.
 fn changed_file_is_none(k: usize) -> bool {
-    let mut more = FILE;
-    let mut less = FILE;
+    let mut more = *FILE;
+    let mut less = *FILE;
     if k >= 8 {
         return false;
     }
@@ -391,7 +185,7 @@ fn a_file_with_a_number_changed_by_one_is_none() -> Result<(), Fail> {
 #[test]
 fn a_file_that_is_cut_short_or_longer_is_none() -> Result<(), Fail> {
     let mut longer = [0; 72];
-    longer[..64].copy_from_slice(&FILE);
+    longer[..64].copy_from_slice(FILE);
     check(read_file(&longer[..64]).is_some())?;
     check(read_file(&longer).is_none())?;
     check(read_file(&longer[..65]).is_none())?;
@@ -442,7 +236,7 @@ fn raise(heap: Global) -> Result<Entry, AllocError> {
 
 #[test]
 fn an_entry_reads_as_what_it_says(rt: LibcRuntime) -> Result<(), Fail> {
-    let Some(entry) = read_entry(rt.alloc(), &ENTRY)? else {
+    let Some(entry) = read_entry(rt.alloc(), ENTRY)? else {
         return Err(Fail::new("no entry"));
     };
     check_eq(entry.place, 2)?;
@@ -467,7 +261,7 @@ fn an_entry_is_written_as_its_bytes_and_no_others(rt: LibcRuntime) -> Result<(),
     let mut memory = before;
     check_eq(entry_length(&entry), Some(120))?;
     check_eq(write_entry(&entry, &mut memory), Some(120))?;
-    check(holds(&memory, &before, 0, &ENTRY))
+    check(holds(&memory, &before, 0, ENTRY))
 }
 
 // Whether a write of the entry to the first bytes of memory, so many of them, is none.
@@ -510,10 +304,10 @@ fn is_entry(heap: Global, bytes: &[u8]) -> Result<bool, Refusal> {
     Ok(entry.is_some())
 }
 
-// Whether the entry is none once the number at a place is one more, and once it is one less. No number of it carries over its lowest byte.
+// Whether the entry is none once the number at a place is one more, and once it is one less. Each time only the lowest byte of the number changes.
 fn changed_entry_is_none(heap: Global, k: usize) -> Result<bool, Refusal> {
-    let mut more = ENTRY;
-    let mut less = ENTRY;
+    let mut more = *ENTRY;
+    let mut less = *ENTRY;
     if k >= 15 {
         return Ok(false);
     }
@@ -534,7 +328,7 @@ fn an_entry_with_a_number_changed_by_one_is_none(rt: LibcRuntime) -> Result<(), 
 fn an_entry_that_is_cut_short_or_longer_is_none(rt: LibcRuntime) -> Result<(), Fail> {
     let heap = rt.alloc();
     let mut longer = [0; 128];
-    longer[..120].copy_from_slice(&ENTRY);
+    longer[..120].copy_from_slice(ENTRY);
     check(is_entry(heap, &longer[..120])?)?;
     check(!is_entry(heap, &longer)?)?;
     check(!is_entry(heap, &longer[..121])?)?;
@@ -593,11 +387,12 @@ fn files_of_an_entry_out_of_their_bounds_are_none(rt: LibcRuntime) -> Result<(),
     check(!is_exchange(heap, [5, 1, 9], KEYS)?)
 }
 
-// Memory with the file at its front, again 64 bytes behind it, and 0xaa behind that.
-fn two_files() -> [u8; 256] {
-    let mut memory = [0xaa; 256];
-    memory[..64].copy_from_slice(&FILE);
-    memory[64..128].copy_from_slice(&FILE);
+// Memory with the file, the file once more, what stays of it without its first row, and 0xaa behind them.
+fn lent_files() -> [u8; 288] {
+    let mut memory = [0xaa; 288];
+    memory[..64].copy_from_slice(FILE);
+    memory[64..128].copy_from_slice(FILE);
+    memory[128..176].copy_from_slice(REST);
     memory
 }
 
@@ -605,80 +400,100 @@ fn part(start: usize, length: usize) -> Part {
     Part { start, length }
 }
 
-// Whether the first file, written anew as file 259 by a writer that began at 8, is just these bytes with keys in this span, and all else is as it was.
-fn is_rewritten(rewrite: Rewrite, bytes: &[u8], keys: Span) -> Result<(), Fail> {
-    let before = two_files();
+// Whether the files in these parts, written anew as file 259 by a writer that began at 8, are just these bytes with keys in this span, and all else is as it
+// was.
+fn is_rewritten(sources: &[Part], rewrite: Rewrite, bytes: &[u8], keys: Span) -> Result<(), Fail> {
+    let before = lent_files();
     let mut memory = before;
     check_eq(
-        rewrite_files(&mut memory, &[part(0, 64)], rewrite, part(130, 100), 259, 8),
+        rewrite_files(&mut memory, sources, rewrite, part(177, 111), 259, 8),
         Some(Written {
             length: bytes.len(),
             keys,
         }),
     )?;
-    check(holds(&memory, &before, 130, bytes))
+    check(holds(&memory, &before, 177, bytes))
 }
 
 #[test]
 fn rows_outside_a_span_are_written_anew() -> Result<(), Fail> {
-    is_rewritten(Rewrite::Outside(span(1, 1)), &REST, span(70000, 70000))?;
-    is_rewritten(Rewrite::Outside(span(0, 69999)), &REST, span(70000, 70000))
+    let file = [part(0, 64)];
+    let keys = span(70000, 70000);
+    is_rewritten(&file, Rewrite::Outside(span(1, 1)), REST, keys)?;
+    is_rewritten(&file, Rewrite::Outside(span(0, 69999)), REST, keys)
 }
 
 #[test]
 fn rows_are_raised_as_they_are_written_anew(rt: LibcRuntime) -> Result<(), Fail> {
-    let one = sealed(rt.alloc(), &[259, 8, 2, 1, 15, 70000, 1000000])?;
-    let both = sealed(rt.alloc(), &[259, 8, 2, 1, 15, 70000, 1000010])?;
+    let file = [part(64, 64)];
     let keys = span(1, 70000);
-    is_rewritten(Rewrite::Raised(span(0, 1), 10), one.as_slice(), keys)?;
-    is_rewritten(Rewrite::Raised(span(1, 70000), 10), both.as_slice(), keys)
+    let one = sealed(rt.alloc(), &[259, 8, 2, 1, 15, 70000, 1000000])?;
+    is_rewritten(&file, Rewrite::Raised(span(0, 1), 10), one.as_slice(), keys)?;
+    let both = sealed(rt.alloc(), &[259, 8, 2, 1, 15, 70000, 1000010])?;
+    is_rewritten(
+        &file,
+        Rewrite::Raised(span(1, 70000), 10),
+        both.as_slice(),
+        keys,
+    )
 }
 
 #[test]
-fn several_files_are_written_as_one(rt: LibcRuntime) -> Result<(), Fail> {
-    let before = two_files();
-    let mut memory = before;
-    let whole = sealed(
+fn several_files_are_written_one_behind_the_other(rt: LibcRuntime) -> Result<(), Fail> {
+    let keys = span(1, 70000);
+    let twice = sealed(
         rt.alloc(),
-        &[260, 9, 4, 1, 5, 70000, 1000000, 1, 5, 70000, 1000000],
+        &[259, 8, 4, 1, 5, 70000, 1000000, 1, 5, 70000, 1000000],
     )?;
-    check_eq(
-        rewrite_files(
-            &mut memory,
-            &[part(64, 64), part(0, 64)],
-            Rewrite::Whole,
-            part(128, 96),
-            260,
-            9,
-        ),
-        Some(Written {
-            length: 96,
-            keys: span(1, 70000),
-        }),
+    is_rewritten(
+        &[part(0, 64), part(64, 64)],
+        Rewrite::Whole,
+        twice.as_slice(),
+        keys,
     )?;
-    check(holds(&memory, &before, 128, whole.as_slice()))
+    let turned = sealed(
+        rt.alloc(),
+        &[259, 8, 3, 70000, 1000000, 1, 5, 70000, 1000000],
+    )?;
+    is_rewritten(
+        &[part(128, 48), part(0, 64)],
+        Rewrite::Whole,
+        turned.as_slice(),
+        keys,
+    )
 }
 
 // Whether nothing of the files in these parts is written to the target, and nothing changes.
 fn is_not_rewritten(sources: &[Part], rewrite: Rewrite, target: Part) -> bool {
-    let before = two_files();
+    let before = lent_files();
     let mut memory = before;
     rewrite_files(&mut memory, sources, rewrite, target, 259, 8).is_none()
         && holds(&memory, &before, 0, &[])
 }
 
 #[test]
-fn what_cannot_be_written_anew_changes_nothing() -> Result<(), Fail> {
+fn a_target_that_is_too_small_or_not_apart_is_left() -> Result<(), Fail> {
     let file = [part(0, 64)];
-    let behind = part(128, 128);
-    check(!is_not_rewritten(&file, Rewrite::Whole, part(128, 64)))?;
-    check(is_not_rewritten(&file, Rewrite::Whole, part(128, 63)))?;
-    check(is_not_rewritten(&file, Rewrite::Whole, part(128, 129)))?;
+    let both = [part(0, 64), part(64, 64)];
+    check(!is_not_rewritten(&file, Rewrite::Whole, part(176, 64)))?;
+    check(is_not_rewritten(&file, Rewrite::Whole, part(176, 63)))?;
+    check(is_not_rewritten(&file, Rewrite::Whole, part(176, 113)))?;
+    check(is_not_rewritten(&file, Rewrite::Whole, part(usize::MAX, 64)))?;
     check(is_not_rewritten(&file, Rewrite::Whole, part(63, 65)))?;
-    check(is_not_rewritten(&[part(0, 56)], Rewrite::Whole, behind))?;
-    check(is_not_rewritten(&[part(8, 64)], Rewrite::Whole, behind))?;
-    check(is_not_rewritten(&[], Rewrite::Whole, behind))?;
-    check(is_not_rewritten(&file, Rewrite::Outside(span(1, 70000)), behind))
+    check(is_not_rewritten(&file, Rewrite::Whole, part(0, 64)))?;
+    check(is_not_rewritten(&both, Rewrite::Whole, part(127, 129)))?;
+    check(!is_not_rewritten(&both, Rewrite::Whole, part(128, 96)))
+}
+
+#[test]
+fn what_is_no_file_is_not_written_anew() -> Result<(), Fail> {
+    let target = part(176, 112);
+    check(is_not_rewritten(&[part(0, 56)], Rewrite::Whole, target))?;
+    check(is_not_rewritten(&[part(8, 64)], Rewrite::Whole, target))?;
+    check(is_not_rewritten(&[part(usize::MAX, 64)], Rewrite::Whole, target))?;
+    check(is_not_rewritten(&[part(0, 64), part(64, 56)], Rewrite::Whole, target))?;
+    check(is_not_rewritten(&[], Rewrite::Whole, target))?;
+    check(is_not_rewritten(&[part(0, 64)], Rewrite::Outside(span(1, 70000)), target))
 }
 
 // Memory with a file of 64 bytes at its front, and 0xaa behind it.
