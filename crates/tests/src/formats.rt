@@ -212,6 +212,42 @@ fn a_file_out_of_its_bounds_is_none(rt: LibcRuntime) -> Result<(), Fail> {
     check(!is_file(heap, &[258, 7, 1, 1, 5, 0])?)
 }
 
+// The numbers of a file of so many rows, without their sum.
+fn numbers_of(heap: Global, count: u64) -> Result<Vec<u64>, AllocError> {
+    let mut numbers = Vec::new(heap);
+    numbers.extend_from_slice(&[258, 7, count])?;
+    for i in 0..count {
+        numbers.push(i & 0xff)?;
+        numbers.push(1)?;
+    }
+    Ok(numbers)
+}
+
+// Whether the rows among these numbers are written as the file that the numbers are.
+fn is_written(heap: Global, numbers: &[u64]) -> Result<bool, AllocError> {
+    let bytes = sealed(heap, numbers)?;
+    let mut memory = Vec::new(heap);
+    for _ in 0..bytes.len() {
+        memory.push(0xaa)?;
+    }
+    if numbers.len() < 3 {
+        return Ok(false);
+    }
+    let written = write_file(258, 7, &numbers[3..], memory.as_mut_slice());
+    Ok(written.is_some() && memory.as_slice() == bytes.as_slice())
+}
+
+#[test]
+fn a_file_has_at_most_65536_rows(rt: LibcRuntime) -> Result<(), Fail> {
+    let heap = rt.alloc();
+    let most = numbers_of(heap, 65536)?;
+    check(is_file(heap, most.as_slice())?)?;
+    check(is_written(heap, most.as_slice())?)?;
+    let above = numbers_of(heap, 65537)?;
+    check(!is_file(heap, above.as_slice())?)?;
+    check(!is_written(heap, above.as_slice())?)
+}
+
 // The entry that ENTRY is.
 fn raise(heap: Global) -> Result<Entry, AllocError> {
     let mut adds = Vec::new(heap);
