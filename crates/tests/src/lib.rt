@@ -2,6 +2,8 @@
 #[cfg(test)]
 mod applying;
 #[cfg(test)]
+mod formats;
+#[cfg(test)]
 mod opening;
 #[cfg(test)]
 mod orders;
