@@ -1,3 +1,4 @@
+pub mod ExportLaws
 pub mod LogLaws
 pub mod SlotLaws
 pub mod PutLaws

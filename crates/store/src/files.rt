@@ -52,7 +52,7 @@ pub(crate) fn slot_with(directory: &[u64], slots: usize, mark: u64) -> Option<us
 }
 
 // How many of so many slots are free.
-fn free_below(directory: &[u64], slots: usize) -> u64
+pub(crate) fn free_below(directory: &[u64], slots: usize) -> u64
     requires { ⌜ 2 * slots ≤ length (now directory) ⌝ }
     ensures { λ r. ⌜ r ≡ free-below (now (directory .entry)) slots ⌝ }
 {

@@ -1,7 +1,9 @@
 // The object store: files under numbers and entries under places, in memory that the caller lends.
 ghost use Prim.Native.Nat.{_≤_};
 
+mod export;
 pub mod files;
+pub mod header;
 pub mod log;
 pub mod opening;
 mod putting;

@@ -29,7 +29,7 @@ fn log_end(ends: &[u64], count: usize) -> Option<u64>
 }
 
 // Where an entry begins and ends, if that lies in the log.
-fn bounds_of(ends: &[u64], log: &[u8], place: usize) -> Option<(usize, usize)>
+pub(crate) fn bounds_of(ends: &[u64], log: &[u8], place: usize) -> Option<(usize, usize)>
     ensures { λ r. ⌜ r ≡ bounds-of (now (ends .entry)) (length (now (log .entry))) place ⌝ }
 {
     if place >= ends.len() {
