@@ -1,3 +1,5 @@
 pub mod LogLaws
 pub mod SlotLaws
 pub mod PutLaws
+pub mod Searches
+pub mod FileKeeping
