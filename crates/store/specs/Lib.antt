@@ -2,3 +2,4 @@ pub mod Opening
 pub mod Log
 pub mod Slots
 pub mod Putting
+pub mod StoreLaws
