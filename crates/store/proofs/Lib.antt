@@ -3,3 +3,4 @@ pub mod SlotLaws
 pub mod PutLaws
 pub mod Searches
 pub mod FileKeeping
+pub mod PutKeeping

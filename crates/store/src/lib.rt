@@ -2,6 +2,7 @@
 ghost use Prim.Native.Nat.{_≤_};
 
 pub mod files;
+pub mod laws;
 pub mod log;
 pub mod opening;
 mod putting;
