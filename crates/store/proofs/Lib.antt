@@ -4,3 +4,4 @@ pub mod PutLaws
 pub mod Searches
 pub mod FileKeeping
 pub mod PutKeeping
+pub mod LogKeeping

@@ -11,10 +11,12 @@ use Rattle.std.specs.declared.result.Result.the-variants.{Ok}
 use Rattle.codec.specs.declared.entry.Added.{Added}
 use Rattle.codec.specs.declared.rewrite.Part.{Part}
 use Rattle.codec.specs.declared.rewrite.Rewrite.{Rewrite}
+use Rattle.codec.specs.Entries.{LogEntry}
 use Rattle.codec.specs.Files.{File, file, pairs, file-bytes, head-of, file-in}
 use Rattle.codec.specs.Rewrites.{part-in, new-file}
 use Rattle.store.specs.declared.files.Stored.{Stored}
 use Rattle.store.specs.declared.unput.Unput.{Unput}
+use Rattle.store.specs.Log.{Log, Sound-log, entry-at, put-entry}
 use Rattle.store.specs.Putting.{Files, put-rows, put-rewritten}
 use Rattle.store.specs.Slots.{slots, stored, freed}
 
@@ -48,3 +50,13 @@ What-is-deleted-is-gone =
     (most : ℕ) (directory bytes : List ℕ) (n : ℕ)
     → (stored most (freed directory (n + 1) (slots most (length directory) (length bytes))) bytes n ≡ None)
     × ((m : ℕ) → (m ≡ n → ⊥) → stored most (freed directory (n + 1) (slots most (length directory) (length bytes))) bytes m ≡ stored most directory bytes m)
+
+-- the entry at a place
+abbrev pub entry-under : Log → ℕ → Option LogEntry
+entry-under l k = entry-at (l .count) (l .ends) (l .bytes) k
+
+-- an entry put behind the others is found there, the others are as they were, and the log stays sound
+abbrev pub Entries-never-change : Type 0
+Entries-never-change =
+    (l m : Log) (e : LogEntry) (v : ℕ) → Sound-log l → _≡_ {A = Result ℕ Unput × Log} (Ok v, m) (put-entry e l)
+    → (v ≡ m .count) × (m .count ≡ l .count + 1) × (entry-under m (l .count) ≡ Some e) × ((k : ℕ) → k < l .count → entry-under m k ≡ entry-under l k) × Sound-log m
