@@ -5,3 +5,4 @@ pub mod Searches
 pub mod FileKeeping
 pub mod PutKeeping
 pub mod LogKeeping
+pub mod Refusing

@@ -1,5 +1,5 @@
 -- What is promised of a store: files that are put are found, files and entries stay, and what is deleted is gone.
-use Prim.Native.Nat.{ℕ, _+_, _*_, _<_}
+use Prim.Native.Nat.{ℕ, _+_, _^_, _<_}
 use mathlib.Core.Path.{_≡_}
 use mathlib.Core.List.{List}
 use mathlib.Core.Logic.{_⊎_}
@@ -7,7 +7,8 @@ use lib.ListN.{length}
 use Rattle.std.specs.declared.option.Option.{Option}
 use Rattle.std.specs.declared.option.Option.the-variants.{Some, None}
 use Rattle.std.specs.declared.result.Result.{Result}
-use Rattle.std.specs.declared.result.Result.the-variants.{Ok}
+use Rattle.std.specs.declared.result.Result.the-variants.{Ok, Err}
+use Rattle.rows.specs.declared.refusal.Refusal.{Refusal}
 use Rattle.codec.specs.declared.entry.Added.{Added}
 use Rattle.codec.specs.declared.rewrite.Part.{Part}
 use Rattle.codec.specs.declared.rewrite.Rewrite.{Rewrite}
@@ -16,9 +17,12 @@ use Rattle.codec.specs.Files.{File, file, pairs, file-bytes, head-of, file-in}
 use Rattle.codec.specs.Rewrites.{part-in, new-file}
 use Rattle.store.specs.declared.files.Stored.{Stored}
 use Rattle.store.specs.declared.unput.Unput.{Unput}
-use Rattle.store.specs.Log.{Log, Sound-log, entry-at, put-entry}
-use Rattle.store.specs.Putting.{Files, put-rows, put-rewritten}
-use Rattle.store.specs.Slots.{slots, stored, freed}
+use Rattle.store.specs.declared.unput.Unput.the-variants.{NumberTaken}
+use Rattle.store.specs.declared.Store.{Store}
+use Rattle.store.specs.Opening.{Numbers, numbers-of, opened}
+use Rattle.store.specs.Log.{Log, log-of, Sound-log, entry-at, put-entry}
+use Rattle.store.specs.Putting.{Files, files-of, put-rows, put-rewritten}
+use Rattle.store.specs.Slots.{slots, mark-at, stored, freed}
 
 -- the file under a number
 abbrev pub file-under : Files → ℕ → Option Stored
@@ -60,3 +64,22 @@ abbrev pub Entries-never-change : Type 0
 Entries-never-change =
     (l m : Log) (e : LogEntry) (v : ℕ) → Sound-log l → _≡_ {A = Result ℕ Unput × Log} (Ok v, m) (put-entry e l)
     → (v ≡ m .count) × (m .count ≡ l .count + 1) × (entry-under m (l .count) ≡ Some e) × ((k : ℕ) → k < l .count → entry-under m k ≡ entry-under l k) × Sound-log m
+
+-- a store that was opened has no files and no entries, and its log is sound
+abbrev pub What-is-opened-is-empty : Type 0
+What-is-opened-is-empty =
+    (s : Store) (horizon most : ℕ) (before directory bytes ends log : List ℕ) → _≡_ {A = Result Numbers Refusal × List ℕ} (numbers-of (Ok s), directory) (opened horizon most before)
+    → ((n : ℕ) → file-under (files-of s directory bytes) n ≡ None) × ((k : ℕ) → entry-under (log-of s ends log) k ≡ None) × Sound-log (log-of s ends log)
+
+-- where nothing was put, nothing has changed
+abbrev pub What-is-refused-changes-nothing : Type 0
+What-is-refused-changes-nothing =
+    ((s t : Files) (u : Unput) (began : ℕ) (lent : List ℕ) → _≡_ {A = Result Added Unput × Files} (Err u, t) (put-rows began lent s) → t ≡ s)
+    × ((s t : Files) (u : Unput) (began : ℕ) (sources : List Part) (w : Rewrite) → _≡_ {A = Result Added Unput × Files} (Err u, t) (put-rewritten began sources w s) → t ≡ s)
+    × ((l m : Log) (u : Unput) (e : LogEntry) → _≡_ {A = Result ℕ Unput × Log} (Err u, m) (put-entry e l) → m ≡ l)
+
+-- no file is put where some slot bears the next number already
+abbrev pub A-taken-number-is-refused : Type 0
+A-taken-number-is-refused =
+    (s : Files) (i : ℕ) → s .next < 2 ^ 32 → i < slots (s .most) (length (s .directory)) (length (s .bytes)) → mark-at (s .directory) i ≡ s .next + 1
+    → ((began : ℕ) (lent : List ℕ) → put-rows began lent s ≡ (Err NumberTaken, s)) × ((began : ℕ) (sources : List Part) (w : Rewrite) → put-rewritten began sources w s ≡ (Err NumberTaken, s))
