@@ -1,6 +1,6 @@
 -- What putting and deleting files leaves of the others.
 use Prim.Native.Nat.{ℕ, zero, suc, _+_, _*_, _^_, _≤_, _<_}
-use mathlib.Core.Path.{_≡_, refl, sym, _∙_, ap, subst}
+use mathlib.Core.Path.{_≡_, refl, sym, _∙_, ap}
 use mathlib.Core.Bool.{Bool, true, false, cond}
 use mathlib.Core.List.{List, []}
 use mathlib.Core.Logic.{_⊎_, inl, inr}
@@ -14,7 +14,7 @@ use Rattle.std.specs.declared.result.Result.{Result}
 use Rattle.std.specs.declared.result.Result.the-variants.{Ok, Err}
 use Rattle.std.specs.Options.{mapped}
 use Rattle.std.proofs.shelf.Lists.{getD-set-same, getD-set-other, length-set}
-use Rattle.std.proofs.shelf.Tests.{eq-eqb, ne-eqb, eqb-true, leb-true, cases-eq, cases-lt, cases-order}
+use Rattle.std.proofs.shelf.Tests.{ne-eqb, leb-true, cases-eq, cases-lt}
 use Rattle.std.proofs.shelf.Ways.{tells}
 use Rattle.rows.specs.Checks.{some-else}
 use Rattle.codec.specs.Files.{File, head-of, file-fits, file-bytes, file-in}
@@ -30,7 +30,7 @@ use Rattle.store.specs.declared.files.Stored.{Stored}
 use Rattle.store.specs.declared.unput.Unput.{Unput}
 use Rattle.store.specs.declared.unput.Unput.the-variants.{NumberTaken, OutOfBounds}
 use Rattle.store.specs.Putting.{Files, no-room, next-slot, in-slot, put-by, slot-of}
-use Rattle.store.specs.StoreLaws.{file-under, Is-under, Was-put}
+use Rattle.store.specs.StoreLaws.{file-under, Is-under}
 use Rattle.store.specs.Slots.{slot-size, slots, mark-at, length-at, slot-bytes, stored-at, stored, slot-with, freed}
 use Rattle.store.proofs.SlotLaws.{length-freed, freed-above, slot-inside, stored-nowhere, stored-too-long, stored-here, stored-in}
 use Rattle.store.proofs.PutLaws.{next-slot-is}

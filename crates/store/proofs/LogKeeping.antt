@@ -1,18 +1,18 @@
 -- What putting an entry leaves of the others.
-use Prim.Native.Nat.{ℕ, zero, suc, _+_, _-_, _≤_, _<_}
+use Prim.Native.Nat.{ℕ, _+_, _-_, _≤_, _<_}
 use mathlib.Core.Path.{_≡_, refl, sym, _∙_, ap, subst}
-use mathlib.Core.Bool.{Bool, true, false, cond, _&&_}
+use mathlib.Core.Bool.{cond, _&&_}
 use mathlib.Core.List.{List}
 use mathlib.Core.Logic.{_⊎_, inl, inr}
 use native.Mathlib.Omega.{arith}
-use lib.Dec.{eqb, leb, ltb}
+use lib.Dec.{leb, ltb}
 use lib.ListN.{length, take, drop, getD, set}
 use Rattle.std.specs.declared.option.Option.{Option}
 use Rattle.std.specs.declared.option.Option.the-variants.{Some, None}
 use Rattle.std.specs.declared.result.Result.{Result}
 use Rattle.std.specs.declared.result.Result.the-variants.{Ok, Err}
 use Rattle.std.proofs.shelf.Lists.{getD-set-same, getD-set-other, length-set}
-use Rattle.std.proofs.shelf.Tests.{and-parts, cases-eq, cases-lt}
+use Rattle.std.proofs.shelf.Tests.{and-parts, cases-eq}
 use Rattle.std.proofs.shelf.Ways.{tells}
 use Rattle.rows.specs.Checks.{some-else}
 use Rattle.codec.specs.Entries.{LogEntry, entry-fits, entry-bytes, entry-in, writable}
@@ -22,7 +22,7 @@ use Rattle.codec.proofs.WordLaws.{length-put-at, read-below, read-put}
 use Rattle.store.specs.declared.unput.Unput.{Unput}
 use Rattle.store.specs.Log.{log-end, bounds-of, entry-placed, entry-at, place-for, Log, put-there, put-entry, Sound-log}
 use Rattle.store.specs.StoreLaws.{entry-under, Entries-never-change}
-use Rattle.store.proofs.LogLaws.{entry-beyond, entry-unbounded, entry-bounded, placed-here, Placed, placed}
+use Rattle.store.proofs.LogLaws.{entry-unbounded, entry-bounded, placed-here, Placed, placed}
 
 -- a log with no entries is sound
 pub empty-log-sound : (ends bytes : List ℕ) → Sound-log (record { count = 0; ends = ends; bytes = bytes })

@@ -1,16 +1,14 @@
 -- What is promised of putting and deleting files.
-use Prim.Native.Nat.{ℕ, _+_, _*_, _%_, _^_, _≤_, _<_}
+use Prim.Native.Nat.{ℕ, _*_, _%_}
 use mathlib.Core.Path.{_≡_, refl, sym, _∙_, ap, subst}
 use mathlib.Core.Bool.{Bool, true, false, cond, _&&_, not}
 use mathlib.Core.List.{List}
-use mathlib.Core.Logic.{_⊎_, inl, inr}
+use mathlib.Core.Logic.{inl, inr}
 use native.Mathlib.Omega.{arith}
 use lib.Dec.{eqb}
 use lib.ListN.{length}
 use Rattle.std.specs.declared.option.Option.{Option}
 use Rattle.std.specs.declared.option.Option.the-variants.{Some, None}
-use Rattle.std.specs.declared.result.Result.{Result}
-use Rattle.std.specs.declared.result.Result.the-variants.{Ok, Err}
 use Rattle.std.proofs.shelf.Tests.{and-parts}
 use Rattle.codec.specs.declared.entry.Added.{Added}
 use Rattle.codec.specs.declared.rewrite.Part.{Part}
@@ -22,9 +20,7 @@ use Rattle.codec.specs.Rewrites.{lies-in, is-source, refuses, source-rows, part
 use Rattle.codec.specs.Words.{put-at}
 use Rattle.codec.specs.Writes.{told-of, writes}
 use Rattle.codec.proofs.LentFiles.{writes-room}
-use Rattle.store.specs.declared.files.Stored.{Stored}
-use Rattle.store.specs.declared.unput.Unput.{Unput}
-use Rattle.store.specs.Putting.{Files, slot-part, put-by, slot-of, lent-in, put-rows, put-rewritten}
+use Rattle.store.specs.Putting.{Files, slot-part, lent-in, put-rows, put-rewritten}
 use Rattle.store.specs.Slots.{slot-size}
 use Rattle.store.specs.StoreLaws.{file-under, Was-put, Is-under, What-is-put-is-found, Other-files-stay, What-is-deleted-is-gone}
 use Rattle.store.proofs.FileKeeping.{deleted-gone, deleted-other, Filled, filled, filled-found, filled-other, filled-bytes, Writes, put-fills}

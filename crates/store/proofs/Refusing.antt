@@ -1,33 +1,30 @@
 -- What is promised of a store that was opened, and of puts that are refused.
-use Prim.Native.Nat.{ℕ, _+_, _*_, _^_, _≤_, _<_}
+use Prim.Native.Nat.{ℕ, _+_, _*_, _^_, _<_}
 use mathlib.Core.Path.{_≡_, refl, sym, _∙_, ap, subst}
 use mathlib.Core.Bool.{Bool, true, false, cond, _||_}
 use mathlib.Core.List.{List}
 use native.Mathlib.Omega.{arith}
 use lib.Dec.{eqb, ltb}
-use lib.ListN.{length, getD, replicate}
+use lib.ListN.{length, replicate}
 use Rattle.std.specs.declared.option.Option.{Option}
 use Rattle.std.specs.declared.option.Option.the-variants.{Some, None}
 use Rattle.std.specs.declared.result.Result.{Result}
 use Rattle.std.specs.declared.result.Result.the-variants.{Ok, Err}
 use Rattle.std.proofs.shelf.Lists.{getD-replicate, length-replicate}
 use Rattle.std.proofs.shelf.Tests.{lt-ltb}
-use Rattle.std.proofs.shelf.Ways.{tells}
 use Rattle.rows.specs.declared.refusal.Refusal.{Refusal}
 use Rattle.rows.specs.declared.refusal.Refusal.the-variants.{NoRoom}
 use Rattle.rows.specs.Checks.{some-else, and-then}
 use Rattle.rows.specs.Refusals.{horizon-from}
 use Rattle.codec.specs.declared.entry.Added.{Added}
-use Rattle.codec.specs.declared.rewrite.Part.{Part}
-use Rattle.codec.specs.declared.rewrite.Rewrite.{Rewrite}
 use Rattle.codec.specs.declared.write.Written.{Written}
 use Rattle.codec.specs.Entries.{LogEntry}
 use Rattle.codec.specs.Rewrites.{rewrite-done}
 use Rattle.store.specs.declared.Store.{Store}
 use Rattle.store.specs.declared.unput.Unput.{Unput}
-use Rattle.store.specs.declared.unput.Unput.the-variants.{NumberTaken, OutOfBounds}
-use Rattle.store.specs.Log.{Log, log-of, Sound-log, place-for, put-there, put-entry}
-use Rattle.store.specs.Opening.{Numbers, numbers, numbers-of, reopened, cleared, opened}
+use Rattle.store.specs.declared.unput.Unput.the-variants.{NumberTaken}
+use Rattle.store.specs.Log.{Log, Sound-log, place-for, put-there, put-entry}
+use Rattle.store.specs.Opening.{Numbers, numbers, numbers-of, reopened, cleared}
 use Rattle.store.specs.Putting.{Files, no-room, next-slot, in-slot, put-by, slot-of, slot-part, lent-in, put-rows, put-rewritten}
 use Rattle.store.specs.Slots.{slots, mark-at, slot-with, stored}
 use Rattle.store.specs.StoreLaws.{What-is-opened-is-empty, What-is-refused-changes-nothing, A-taken-number-is-refused}
