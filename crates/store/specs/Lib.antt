@@ -3,3 +3,4 @@ pub mod Log
 pub mod Slots
 pub mod Putting
 pub mod Export
+pub mod StoreLaws

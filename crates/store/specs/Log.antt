@@ -1,5 +1,5 @@
 -- The entries of a log that lies in memory: back to back, the first at 0, and where each of them ends.
-use Prim.Native.Nat.{ℕ, _+_, _-_}
+use Prim.Native.Nat.{ℕ, _+_, _-_, _≤_, _<_}
 use mathlib.Core.Bool.{cond, _&&_}
 use mathlib.Core.List.{List}
 use lib.Dec.{eqb, leb, ltb}
@@ -72,3 +72,10 @@ put-there e l (Err u) = (Err u, l)
 
 unfoldable pub put-entry : LogEntry → Log → Result ℕ Unput × Log
 put-entry e l = put-there e l (place-for e (l .count) (l .ends) (length (l .bytes)))
+
+-- a log that puts have made: there is an end for each entry, the ends do not fall, and they lie in the log
+abbrev pub Sound-log : Log → Type 0
+Sound-log l =
+    (l .count ≤ length (l .ends))
+    × ((j k : ℕ) → j ≤ k → k < l .count → getD (l .ends) j 0 ≤ getD (l .ends) k 0)
+    × ((k : ℕ) → k < l .count → getD (l .ends) k 0 ≤ length (l .bytes))

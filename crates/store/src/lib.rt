@@ -4,6 +4,7 @@ ghost use Prim.Native.Nat.{_≤_};
 mod export;
 pub mod files;
 pub mod header;
+pub mod laws;
 pub mod log;
 pub mod opening;
 mod putting;
