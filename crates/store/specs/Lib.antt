@@ -3,4 +3,5 @@ pub mod Log
 pub mod Slots
 pub mod Putting
 pub mod Export
+pub mod Import
 pub mod StoreLaws

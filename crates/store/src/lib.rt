@@ -9,6 +9,7 @@ pub mod log;
 pub mod opening;
 mod putting;
 pub mod unput;
+pub mod unread;
 
 // What a store owns: its numbers. The four slices that hold files and entries go beside it.
 #[derive(Clone, Copy)]

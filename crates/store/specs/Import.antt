@@ -1,0 +1,45 @@
+-- A store read in from the bytes that it was written out as.
+use Prim.Native.Nat.{ℕ, _+_, _%_, _^_}
+use mathlib.Core.Bool.{cond, _||_}
+use mathlib.Core.List.{List}
+use lib.Dec.{eqb, ltb}
+use lib.ListN.{length, take, drop}
+use Rattle.std.specs.declared.option.Option.{Option}
+use Rattle.std.specs.declared.option.Option.the-variants.{Some, None}
+use Rattle.std.specs.declared.result.Result.{Result}
+use Rattle.std.specs.declared.result.Result.the-variants.{Ok, Err}
+use Rattle.std.specs.shelf.Lists.{sum}
+use Rattle.rows.specs.Checks.{some-else}
+use Rattle.codec.specs.Words.{le}
+use Rattle.store.specs.Export.{header-words}
+use Rattle.store.specs.declared.header.Header.{Header}
+use Rattle.store.specs.declared.unread.Unread.{Unread}
+use Rattle.store.specs.declared.unread.Unread.the-variants.{At, TooSmall}
+
+-- the number of the eight bytes from a byte on
+abbrev pub word-at : ℕ → List ℕ → ℕ
+word-at at bs = le (take 8 (drop at bs))
+
+-- the byte at which the first number of a header stands that is out of its bounds
+abbrev pub out-at : Header → Option ℕ
+out-at h =
+    cond (ltb 4096 (h .horizon)) (Some 0)
+    (cond (ltb (2 ^ 32) (h .next)) (Some 8)
+    (cond (eqb (h .«most_rows») 0 || ltb 65536 (h .«most_rows»)) (Some 16)
+    (cond (ltb (h .slots) (h .files)) (Some 32)
+    (cond (ltb 65536 (h .entries)) (Some 40) None))))
+
+abbrev pub bounded : Header → Result Header Unread
+bounded h = some-else (out-at h) (Ok h) (λ at. Err (At at))
+
+-- the numbers at the front of bytes
+abbrev pub header-at : List ℕ → Header
+header-at bs = record { horizon = word-at 0 bs; next = word-at 8 bs; «most_rows» = word-at 16 bs; slots = word-at 24 bs; files = word-at 32 bs; entries = word-at 40 bs }
+
+-- the header that bytes begin with
+abbrev pub header-in : List ℕ → Result Header Unread
+header-in bs =
+    cond (ltb (length bs) 56) (Err (At (length bs)))
+    (cond (eqb (word-at 48 bs) (sum (header-words (header-at bs)) % 2 ^ 64))
+    (bounded (header-at bs))
+    (Err (At 48)))
