@@ -1,4 +1,5 @@
 pub mod ExportLaws
+pub mod ImportLaws
 pub mod LogLaws
 pub mod SlotLaws
 pub mod PutLaws

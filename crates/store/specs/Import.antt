@@ -1,17 +1,18 @@
 -- A store read in from the bytes that it was written out as.
-use Prim.Native.Nat.{ℕ, _+_, _%_, _^_}
+use Prim.Native.Nat.{ℕ, zero, suc, _+_, _-_, _*_, _%_, _^_}
 use mathlib.Core.Bool.{cond, _||_}
 use mathlib.Core.List.{List}
 use lib.Dec.{eqb, ltb}
-use lib.ListN.{length, take, drop}
+use lib.ListN.{length, take, drop, set}
 use Rattle.std.specs.declared.option.Option.{Option}
 use Rattle.std.specs.declared.option.Option.the-variants.{Some, None}
 use Rattle.std.specs.declared.result.Result.{Result}
 use Rattle.std.specs.declared.result.Result.the-variants.{Ok, Err}
 use Rattle.std.specs.shelf.Lists.{sum}
 use Rattle.rows.specs.Checks.{some-else}
-use Rattle.codec.specs.Words.{le}
+use Rattle.codec.specs.Words.{le, put-at}
 use Rattle.store.specs.Export.{header-words}
+use Rattle.store.specs.Slots.{slot-size}
 use Rattle.store.specs.declared.header.Header.{Header}
 use Rattle.store.specs.declared.unread.Unread.{Unread}
 use Rattle.store.specs.declared.unread.Unread.the-variants.{At, TooSmall}
@@ -43,3 +44,30 @@ header-in bs =
     (cond (eqb (word-at 48 bs) (sum (header-words (header-at bs)) % 2 ^ 64))
     (bounded (header-at bs))
     (Err (At 48)))
+
+-- where the file from a byte on ends: number, length, and so many bytes, at most a slot's
+abbrev pub file-end : ℕ → ℕ → List ℕ → Result ℕ Unread
+file-end most at bs =
+    cond (ltb (length bs - at) 16) (Err (At (length bs)))
+    (cond (eqb (word-at at bs) (2 ^ 64 - 1)) (Err (At at))
+    (cond (ltb (slot-size most) (word-at (at + 8) bs)) (Err (At (at + 8)))
+    (cond (ltb (length bs - at - 16) (word-at (at + 8) bs)) (Err (At (length bs)))
+    (Ok (at + 16 + word-at (at + 8) bs)))))
+
+-- a file read into a slot: where it ends, and the directory and the file bytes afterwards
+abbrev pub read-to : ℕ → ℕ → List ℕ → ℕ → List ℕ → List ℕ → Result ℕ Unread → Result ℕ Unread × List ℕ × List ℕ
+read-to most at bs i d fs (Ok end) = (Ok end, set (set d (2 * i) (word-at at bs + 1)) (1 + 2 * i) (end - at - 16), put-at (i * slot-size most) (take (end - at - 16) (drop (at + 16) bs)) fs)
+read-to most at bs i d fs (Err u) = (Err u, d, fs)
+
+unfoldable pub file-read : ℕ → ℕ → List ℕ → ℕ → List ℕ → List ℕ → Result ℕ Unread × List ℕ × List ℕ
+file-read most at bs i d fs = read-to most at bs i d fs (file-end most at bs)
+
+-- the rest of a reading, if what came before it was read
+abbrev pub read-on : Result ℕ Unread × List ℕ × List ℕ → (ℕ → List ℕ → List ℕ → Result ℕ Unread × List ℕ × List ℕ) → Result ℕ Unread × List ℕ × List ℕ
+read-on (Ok at, d, fs) rest = rest at d fs
+read-on (Err u, d, fs) rest = (Err u, d, fs)
+
+-- so many files read into the slots from one on
+unfoldable pub files-read : ℕ → List ℕ → ℕ → ℕ → ℕ → List ℕ → List ℕ → Result ℕ Unread × List ℕ × List ℕ
+files-read most bs zero i at d fs = (Ok at, d, fs)
+files-read most bs (suc n) i at d fs = read-on (file-read most at bs i d fs) (λ at′ d′ fs′. files-read most bs n (i + 1) at′ d′ fs′)

@@ -4,6 +4,7 @@ ghost use Prim.Native.Nat.{_≤_};
 mod export;
 pub mod files;
 pub mod header;
+mod import;
 pub mod laws;
 pub mod log;
 pub mod opening;
