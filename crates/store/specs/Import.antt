@@ -3,7 +3,7 @@ use Prim.Native.Nat.{ℕ, zero, suc, _+_, _-_, _*_, _%_, _^_}
 use mathlib.Core.Bool.{cond, _||_}
 use mathlib.Core.List.{List}
 use lib.Dec.{eqb, ltb}
-use lib.ListN.{length, take, drop, set}
+use lib.ListN.{length, replicate, take, drop, set}
 use Rattle.std.specs.declared.option.Option.{Option}
 use Rattle.std.specs.declared.option.Option.the-variants.{Some, None}
 use Rattle.std.specs.declared.result.Result.{Result}
@@ -71,3 +71,40 @@ read-on (Err u, d, fs) rest = (Err u, d, fs)
 unfoldable pub files-read : ℕ → List ℕ → ℕ → ℕ → ℕ → List ℕ → List ℕ → Result ℕ Unread × List ℕ × List ℕ
 files-read most bs zero i at d fs = (Ok at, d, fs)
 files-read most bs (suc n) i at d fs = read-on (file-read most at bs i d fs) (λ at′ d′ fs′. files-read most bs n (i + 1) at′ d′ fs′)
+
+-- where the entry from a byte on ends: its length, and so many bytes, at most those left in the log
+abbrev pub entry-end : ℕ → ℕ → List ℕ → Result ℕ Unread
+entry-end at left bs =
+    cond (ltb (length bs - at) 8) (Err (At (length bs)))
+    (cond (ltb (length bs - at - 8) (word-at at bs)) (Err (At (length bs)))
+    (cond (ltb left (word-at at bs)) (Err TooSmall)
+    (Ok (at + 8 + word-at at bs))))
+
+-- an entry read to a place, behind the bytes of the log that are used: where it ends, and the ends and the log afterwards
+abbrev pub place-to : ℕ → List ℕ → ℕ → ℕ → List ℕ → List ℕ → Result ℕ Unread → Result ℕ Unread × List ℕ × List ℕ
+place-to at bs k used es log (Ok end) = (Ok end, set es k (used + (end - at - 8)), put-at used (take (end - at - 8) (drop (at + 8) bs)) log)
+place-to at bs k used es log (Err u) = (Err u, es, log)
+
+unfoldable pub place-read : ℕ → List ℕ → ℕ → ℕ → List ℕ → List ℕ → Result ℕ Unread × List ℕ × List ℕ
+place-read at bs k used es log = place-to at bs k used es log (entry-end at (length log - used) bs)
+
+-- so many entries read to the places from one on
+unfoldable pub entries-read : List ℕ → ℕ → ℕ → ℕ → ℕ → List ℕ → List ℕ → Result ℕ Unread × List ℕ × List ℕ
+entries-read bs zero k at used es log = (Ok at, es, log)
+entries-read bs (suc n) k at used es log = read-on (place-read at bs k used es log) (λ at′ es′ log′. entries-read bs n (k + 1) at′ (used + (at′ - at - 8)) es′ log′)
+
+abbrev pub Body : Type 0
+Body = Result Unit Unread × List ℕ × List ℕ × List ℕ × List ℕ
+
+-- what is told in the end, which is an error where bytes are left
+abbrev pub body-end : List ℕ → List ℕ → List ℕ → Result ℕ Unread × List ℕ × List ℕ → Body
+body-end bs d fs (Ok end, es, log) = (cond (ltb end (length bs)) (Err (At end)) (Ok tt), d, fs, es, log)
+body-end bs d fs (Err u, es, log) = (Err u, d, fs, es, log)
+
+abbrev pub body-entries : List ℕ → ℕ → List ℕ → List ℕ → Result ℕ Unread × List ℕ × List ℕ → Body
+body-entries bs count es log (Ok at, d, fs) = body-end bs d fs (entries-read bs count 0 at 0 es log)
+body-entries bs count es log (Err u, d, fs) = (Err u, d, fs, es, log)
+
+-- files and entries read from behind the header into memory, its directory cleared before
+unfoldable pub body-read : ℕ → List ℕ → ℕ → ℕ → List ℕ → List ℕ → List ℕ → List ℕ → Body
+body-read most bs held count d fs es log = body-entries bs count es log (files-read most bs held 0 56 (replicate (length d) 0) fs)

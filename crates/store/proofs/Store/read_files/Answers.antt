@@ -8,7 +8,10 @@ use Rattle.store.proofs.Store.read_files.Needs as need
 pub returns-in-Break-at : need.returns-in-Break-at
 returns-in-Break-at c =
     let p = err-from-errBy (c .from-residual .result) (c .from-residual .ensures .1) in
-    rw (p .1, p .2) (files-stop (c .args .self .now .«most_rows») (c .args .bytes .now) (c .args .count) (c .loop-slot .slot) (c .loop-slot .at) (c .loop-slot .directory) (c .loop-slot .files) _ (c .read-slot .last .directory) (c .read-slot .last .files) _ (omega arith) (c .in-Break-at .ensures tt) (c .loop-slot .inv .0))
+    rw (p .1, p .2) (record {
+      read = files-stop (c .args .self .now .«most_rows») (c .args .bytes .now) (c .args .count) (c .loop-slot .slot) (c .loop-slot .at) (c .loop-slot .directory) (c .loop-slot .files) _ (c .read-slot .last .directory) (c .read-slot .last .files) _ (omega arith) (c .in-Break-at .ensures tt) (c .loop-slot .inv .0);
+      end = tt;
+    })
 
 pub loop-slot-again : need.loop-slot-again
 loop-slot-again c =
@@ -16,8 +19,7 @@ loop-slot-again c =
     let bs = c .args .bytes .now in
     let i = c .loop-slot .slot in
     let here = slot-still most i (c .args .count) (length (c .args .directory .now)) (length (c .args .files .now)) (length (c .loop-slot .directory)) (length (c .loop-slot .files)) (omega arith) (c .pre .inside) (c .loop-slot .inv .2) (c .loop-slot .inv .3) in
-    let k = read-keeps most (c .loop-slot .at) bs i (c .loop-slot .directory) (c .loop-slot .files) (c .in-Continue-at .at) (c .read-slot .last .directory) (c .read-slot .last .files) here (c .in-Continue-at .ensures tt) in
-    (
+    let k = read-keeps most (c .loop-slot .at) bs i (c .loop-slot .directory) (c .loop-slot .files) (c .in-Continue-at .at) (c .read-slot .last .directory) (c .read-slot .last .files) here (c .in-Continue-at .ensures tt) in (
       files-go most bs (c .args .count) i (c .loop-slot .at) (c .loop-slot .directory) (c .loop-slot .files) (c .in-Continue-at .at) (c .read-slot .last .directory) (c .read-slot .last .files) _ (omega arith) (c .in-Continue-at .ensures tt) (c .loop-slot .inv .0),
       k .0,
       k .1 ∙ c .loop-slot .inv .2,
@@ -25,4 +27,8 @@ loop-slot-again c =
     )
 
 pub returns : need.returns
-returns c = files-all (c .args .self .now .«most_rows») (c .args .bytes .now) (c .args .count) (c .loop-slot .slot) (c .loop-slot .at) (c .loop-slot .directory) (c .loop-slot .files) _ (omega arith) (c .loop-slot .inv .0)
+returns c =
+    record {
+      read = files-all (c .args .self .now .«most_rows») (c .args .bytes .now) (c .args .count) (c .loop-slot .slot) (c .loop-slot .at) (c .loop-slot .directory) (c .loop-slot .files) _ (omega arith) (c .loop-slot .inv .0);
+      end = c .loop-slot .inv .1;
+    }
