@@ -13,9 +13,10 @@ use Rattle.std.proofs.shelf.Lists.{length-drop, length-set, length-take-le}
 use Rattle.std.proofs.shelf.Tests.{le-ltb, lt-ltb}
 use Rattle.std.proofs.shelf.Ways.{tells}
 use Rattle.codec.proofs.WordLaws.{length-put-at, put-mid}
+use Rattle.store.specs.declared.header.Header.{Header}
 use Rattle.store.specs.declared.unread.Unread.{Unread}
-use Rattle.store.specs.declared.unread.Unread.the-variants.{At}
-use Rattle.store.specs.Import.{word-at, file-end, read-to, file-read, read-on, files-read, entry-end, place-to, place-read, entries-read, Body, body-end, body-entries, body-read}
+use Rattle.store.specs.declared.unread.Unread.the-variants.{At, TooSmall}
+use Rattle.store.specs.Import.{word-at, header-in, file-end, read-to, file-read, read-on, files-read, entry-end, place-to, place-read, entries-read, Body, body-end, body-entries, body-read, Import, numbers-at, body-told, read-by, read-in}
 use Rattle.store.specs.Slots.{slot-size, slots}
 use Rattle.store.proofs.SlotLaws.{slot-inside}
 
@@ -144,3 +145,37 @@ body-longer bs d fs end es log h = ap (λ b. (cond b (Err (At end)) (Ok tt), d, 
 
 pub body-whole : (bs d fs : List ℕ) (end : ℕ) (es log : List ℕ) → length bs ≤ end → _≡_ {A = Body} (Ok tt, d, fs, es, log) (body-end bs d fs (Ok end, es, log))
 body-whole bs d fs end es log h = ap (λ b. (cond b (Err (At end)) (Ok tt), d, fs, es, log)) (sym (le-ltb end (length bs) h))
+
+-- a header that is read is within its bounds
+pub header-bounds : (bs : List ℕ) (h : Header) → Ok h ≡ header-in bs → (56 ≤ length bs) × (h .horizon ≤ 4096) × (h .next ≤ 2 ^ 32) × (1 ≤ h .«most_rows») × (h .«most_rows» ≤ 65536) × (h .files ≤ h .slots) × (h .entries ≤ 65536)
+header-bounds bs h e = grind (arith, tells, e)
+
+-- what is told of a store, by its header and the memory
+pub in-no-header : (bs d fs es log : List ℕ) (u : Unread) → Err u ≡ header-in bs → _≡_ {A = Import} (Err u, d, fs, es, log) (read-in bs d fs es log)
+unfolding read-in
+in-no-header bs d fs es log u e = ap (read-by bs d fs es log) e
+
+by-header : (bs d fs es log : List ℕ) (h : Header) → Ok h ≡ header-in bs → read-by bs d fs es log (Ok h) ≡ read-in bs d fs es log
+unfolding read-in
+by-header bs d fs es log h e = ap (read-by bs d fs es log) e
+
+pub in-few-slots : (bs d fs es log : List ℕ) (h : Header) (n : ℕ) → Ok h ≡ header-in bs → n ≡ slots (h .«most_rows») (length d) (length fs) → n < h .slots → _≡_ {A = Import} (Err TooSmall, d, fs, es, log) (read-in bs d fs es log)
+in-few-slots bs d fs es log h n e s k =
+    ap (λ b. cond b (Err TooSmall, d, fs, es, log) (cond (ltb (length es) (h .entries)) (Err TooSmall, d, fs, es, log) (body-told (numbers-at h) (body-read (h .«most_rows») bs (h .files) (h .entries) d fs es log)))) (sym (lt-ltb n (h .slots) k) ∙ ap (λ m. ltb m (h .slots)) s)
+    ∙ by-header bs d fs es log h e
+
+by-slots : (bs d fs es log : List ℕ) (h : Header) (n : ℕ) → Ok h ≡ header-in bs → n ≡ slots (h .«most_rows») (length d) (length fs) → h .slots ≤ n → cond (ltb (length es) (h .entries)) (Err TooSmall, d, fs, es, log) (body-told (numbers-at h) (body-read (h .«most_rows») bs (h .files) (h .entries) d fs es log)) ≡ read-in bs d fs es log
+by-slots bs d fs es log h n e s k =
+    ap (λ b. cond b (Err TooSmall, d, fs, es, log) (cond (ltb (length es) (h .entries)) (Err TooSmall, d, fs, es, log) (body-told (numbers-at h) (body-read (h .«most_rows») bs (h .files) (h .entries) d fs es log)))) (sym (le-ltb n (h .slots) k) ∙ ap (λ m. ltb m (h .slots)) s)
+    ∙ by-header bs d fs es log h e
+
+pub in-few-places : (bs d fs es log : List ℕ) (h : Header) (n : ℕ) → Ok h ≡ header-in bs → n ≡ slots (h .«most_rows») (length d) (length fs) → h .slots ≤ n → length es < h .entries → _≡_ {A = Import} (Err TooSmall, d, fs, es, log) (read-in bs d fs es log)
+in-few-places bs d fs es log h n e s k p =
+    ap (λ b. cond b (Err TooSmall, d, fs, es, log) (body-told (numbers-at h) (body-read (h .«most_rows») bs (h .files) (h .entries) d fs es log))) (sym (lt-ltb (length es) (h .entries) p))
+    ∙ by-slots bs d fs es log h n e s k
+
+pub in-body : (bs d fs es log : List ℕ) (h : Header) (n : ℕ) (b : Body) → Ok h ≡ header-in bs → n ≡ slots (h .«most_rows») (length d) (length fs) → h .slots ≤ n → h .entries ≤ length es → b ≡ body-read (h .«most_rows») bs (h .files) (h .entries) d fs es log → body-told (numbers-at h) b ≡ read-in bs d fs es log
+in-body bs d fs es log h n b e s k p q =
+    ap (body-told (numbers-at h)) q
+    ∙ ap (λ t. cond t (Err TooSmall, d, fs, es, log) (body-told (numbers-at h) (body-read (h .«most_rows») bs (h .files) (h .entries) d fs es log))) (sym (le-ltb (length es) (h .entries) p))
+    ∙ by-slots bs d fs es log h n e s k

@@ -12,7 +12,9 @@ use Rattle.std.specs.shelf.Lists.{sum}
 use Rattle.rows.specs.Checks.{some-else}
 use Rattle.codec.specs.Words.{le, put-at}
 use Rattle.store.specs.Export.{header-words}
-use Rattle.store.specs.Slots.{slot-size}
+use Rattle.store.specs.Opening.{Numbers, numbers}
+use Rattle.store.specs.Slots.{slot-size, slots}
+use Rattle.store.specs.declared.Store.{Store}
 use Rattle.store.specs.declared.header.Header.{Header}
 use Rattle.store.specs.declared.unread.Unread.{Unread}
 use Rattle.store.specs.declared.unread.Unread.the-variants.{At, TooSmall}
@@ -108,3 +110,29 @@ body-entries bs count es log (Err u, d, fs) = (Err u, d, fs, es, log)
 -- files and entries read from behind the header into memory, its directory cleared before
 unfoldable pub body-read : ℕ → List ℕ → ℕ → ℕ → List ℕ → List ℕ → List ℕ → List ℕ → Body
 body-read most bs held count d fs es log = body-entries bs count es log (files-read most bs held 0 56 (replicate (length d) 0) fs)
+
+abbrev pub numbers-read : Result Store Unread → Result Numbers Unread
+numbers-read (Ok s) = Ok (numbers s)
+numbers-read (Err u) = Err u
+
+abbrev pub Import : Type 0
+Import = Result Numbers Unread × List ℕ × List ℕ × List ℕ × List ℕ
+
+abbrev pub numbers-at : Header → Numbers
+numbers-at h = record { horizon = h .horizon; next = h .next; entries = h .entries; most-rows = h .«most_rows» }
+
+-- what is told of a store, by what is told of its body
+abbrev pub body-told : Numbers → Body → Import
+body-told n (Ok _, d, fs, es, log) = (Ok n, d, fs, es, log)
+body-told n (Err u, d, fs, es, log) = (Err u, d, fs, es, log)
+
+-- a store by its header, in memory that has the slots and the places that the header says
+abbrev pub read-by : List ℕ → List ℕ → List ℕ → List ℕ → List ℕ → Result Header Unread → Import
+read-by bs d fs es log (Ok h) =
+    cond (ltb (slots (h .«most_rows») (length d) (length fs)) (h .slots)) (Err TooSmall, d, fs, es, log)
+    (cond (ltb (length es) (h .entries)) (Err TooSmall, d, fs, es, log)
+    (body-told (numbers-at h) (body-read (h .«most_rows») bs (h .files) (h .entries) d fs es log)))
+read-by bs d fs es log (Err u) = (Err u, d, fs, es, log)
+
+unfoldable pub read-in : List ℕ → List ℕ → List ℕ → List ℕ → List ℕ → Import
+read-in bs d fs es log = read-by bs d fs es log (header-in bs)

@@ -3,9 +3,10 @@ ghost use mathlib.Core.Path.{_≡_};
 ghost use Prim.Native.Nat.{_+_, _≤_, _<_};
 ghost use lib.ListN.{length};
 ghost use Rattle.std.specs.Results.{Cases};
-ghost use Rattle.store.specs.Import.{file-end, file-read, files-read, entry-end, place-read, entries-read, body-read};
+ghost use Rattle.store.specs.Import.{file-end, file-read, files-read, entry-end, place-read, entries-read, body-read, numbers-read, read-in};
 ghost use Rattle.store.specs.Slots.{slots};
 use crate::Store;
+use crate::header::Header;
 use crate::header::word_at;
 use crate::unread::Unread;
 
@@ -157,5 +158,32 @@ impl Store {
             return Err(Unread::At(end as u64));
         }
         Ok(())
+    }
+
+    // The store that bytes were written out of, in memory that is large enough for it. Where there is an error, the memory holds what was read so far.
+    pub fn read_in(
+        bytes: &[u8],
+        directory: &mut [u64],
+        files: &mut [u8],
+        ends: &mut [u64],
+        log: &mut [u8],
+    ) -> Result<Store, Unread>
+        ensures { λ r. ⌜ (numbers-read r, now (directory .exit), now (files .exit), now (ends .exit), now (log .exit)) ≡ read-in (now (bytes .entry)) (now (directory .entry)) (now (files .entry)) (now (ends .entry)) (now (log .entry)) ⌝ }
+    {
+        let header = Header::read(bytes)?;
+        let store = Store {
+            horizon: header.horizon,
+            next: header.next,
+            entries: header.entries,
+            most_rows: header.most_rows,
+        };
+        if header.slots > store.slots(directory, files) as u64 {
+            return Err(Unread::TooSmall);
+        }
+        if header.entries > ends.len() as u64 {
+            return Err(Unread::TooSmall);
+        }
+        store.read_body(bytes, header.files as usize, directory, files, ends, log)?;
+        Ok(store)
     }
 }
