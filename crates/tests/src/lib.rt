@@ -9,3 +9,5 @@ mod opening;
 mod orders;
 #[cfg(test)]
 mod spans;
+#[cfg(test)]
+mod stores;
