@@ -23,6 +23,9 @@ use store::Store;
 use store::unput::Unput;
 use store::unput::UnputDebug;
 use store::unput::UnputPartialEq;
+use store::unread::Unread;
+use store::unread::UnreadDebug;
+use store::unread::UnreadPartialEq;
 
 fn span(from: u32, to: u32) -> Span {
     Span { from, to }
@@ -514,4 +517,122 @@ fn a_store_is_written_out_with_what_it_holds(rt: LibcRuntime) -> Result<(), Fail
     directory[1] = 49;
     let damaged = store.write_out(heap, &directory, &files, &ends, front(&log, 87))?;
     check(damaged.as_slice() == bytes_of(heap, DAMAGED)?.as_slice())
+}
+
+#[test]
+fn what_was_written_out_is_read_in(rt: LibcRuntime) -> Result<(), Fail> {
+    let heap = rt.alloc();
+    let bytes = bytes_of(heap, WHOLE)?;
+    let mut directory = [9; 4];
+    let mut files = [0xaa; 96];
+    let mut ends = [9; 2];
+    let mut log = [0xaa; 100];
+    let Ok(store) = Store::read_in(
+        bytes.as_slice(),
+        &mut directory,
+        &mut files,
+        &mut ends,
+        &mut log,
+    ) else {
+        return check(false);
+    };
+    check(&directory[..] == &[1, 48, 0, 0])?;
+    check(&ends[..] == &[88, 9])?;
+    check_eq(store.next(), 1)?;
+    check_eq(store.entries(), 1)?;
+    let out = store.write_out(heap, &directory, &files, &ends, &log)?;
+    check(out.as_slice() == bytes.as_slice())
+}
+
+// Why numbers are not read in, where the memory has two slots for files of one row, two places, and a log of eight bytes.
+fn why_unread(heap: Global, numbers: &[u64]) -> Result<Option<Unread>, AllocError> {
+    let bytes = bytes_of(heap, numbers)?;
+    let mut directory = [9; 4];
+    let mut files = [0xaa; 96];
+    let mut ends = [9; 2];
+    let mut log = [0xaa; 8];
+    Ok(Store::read_in(
+        bytes.as_slice(),
+        &mut directory,
+        &mut files,
+        &mut ends,
+        &mut log,
+    ).err())
+}
+
+#[test]
+fn a_header_that_is_none_says_at_which_byte(rt: LibcRuntime) -> Result<(), Fail> {
+    let heap = rt.alloc();
+    check_eq(why_unread(heap, &[8, 0, 1, 2, 0, 0, 11])?, None)?;
+    check_eq(why_unread(heap, &[8, 0])?, Some(Unread::At(16)))?;
+    check_eq(
+        why_unread(heap, &[8, 0, 1, 2, 0, 0, 12])?,
+        Some(Unread::At(48)),
+    )?;
+    check_eq(
+        why_unread(heap, &[4097, 0, 1, 2, 0, 0, 4100])?,
+        Some(Unread::At(0)),
+    )?;
+    check_eq(
+        why_unread(heap, &[8, 4294967297, 1, 2, 0, 0, 4294967308])?,
+        Some(Unread::At(8)),
+    )?;
+    check_eq(
+        why_unread(heap, &[8, 0, 0, 2, 0, 0, 10])?,
+        Some(Unread::At(16)),
+    )?;
+    check_eq(
+        why_unread(heap, &[8, 0, 1, 2, 3, 0, 14])?,
+        Some(Unread::At(32)),
+    )?;
+    check_eq(
+        why_unread(heap, &[8, 0, 1, 2, 0, 65537, 65548])?,
+        Some(Unread::At(40)),
+    )
+}
+
+#[test]
+fn a_body_that_is_none_says_at_which_byte(rt: LibcRuntime) -> Result<(), Fail> {
+    let heap = rt.alloc();
+    check_eq(
+        why_unread(heap, &[8, 1, 1, 2, 1, 0, 13])?,
+        Some(Unread::At(56)),
+    )?;
+    check_eq(
+        why_unread(heap, &[8, 1, 1, 2, 1, 0, 13, 18446744073709551615, 0])?,
+        Some(Unread::At(56)),
+    )?;
+    check_eq(
+        why_unread(heap, &[8, 1, 1, 2, 1, 0, 13, 0, 49])?,
+        Some(Unread::At(64)),
+    )?;
+    check_eq(
+        why_unread(heap, &[8, 1, 1, 2, 1, 0, 13, 0, 48, 0])?,
+        Some(Unread::At(80)),
+    )?;
+    check_eq(
+        why_unread(heap, &[8, 0, 1, 2, 0, 1, 12, 8])?,
+        Some(Unread::At(64)),
+    )?;
+    check_eq(
+        why_unread(heap, &[8, 0, 1, 2, 0, 0, 11, 5])?,
+        Some(Unread::At(56)),
+    )
+}
+
+#[test]
+fn memory_that_is_too_small_is_not_read_into(rt: LibcRuntime) -> Result<(), Fail> {
+    let heap = rt.alloc();
+    check_eq(
+        why_unread(heap, &[8, 0, 1, 3, 0, 0, 12])?,
+        Some(Unread::TooSmall),
+    )?;
+    check_eq(
+        why_unread(heap, &[8, 0, 1, 2, 0, 3, 14])?,
+        Some(Unread::TooSmall),
+    )?;
+    check_eq(
+        why_unread(heap, &[8, 0, 1, 2, 0, 1, 12, 16, 0, 0])?,
+        Some(Unread::TooSmall),
+    )
 }
