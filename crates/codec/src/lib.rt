@@ -1,4 +1,6 @@
 // Files and entries as bytes.
+#![tactic(auto)]
+
 ghost use Rattle.codec.specs.EntryLaws.{EntriesComeBack, EntriesAreOne};
 ghost use Rattle.codec.specs.FileLaws.{FilesComeBack, FilesAreOne, RowsAreThere, KeysAreTheEnds};
 

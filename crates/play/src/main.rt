@@ -1,4 +1,6 @@
 // Plays a day: the file that its argument names, or standard input.
+#![tactic(auto)]
+
 use std::io::Read;
 use std::{env, fs};
 

@@ -1,4 +1,6 @@
 // Rows, spans and orders, what an order does to rows, and why a deed is refused.
+#![tactic(auto)]
+
 ghost use Rattle.rows.specs.Laws.{RowOrderMeansNothing, OverlappingIsSharingAKey};
 
 pub mod apply;

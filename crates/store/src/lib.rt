@@ -1,4 +1,6 @@
 // The object store: files under numbers and entries under places, in memory that the caller lends.
+#![tactic(auto)]
+
 ghost use Rattle.std.specs.Prelude.{◌≤◌};
 
 mod export;

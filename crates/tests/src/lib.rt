@@ -1,4 +1,6 @@
 // Tests of the libraries, on examples.
+#![tactic(auto)]
+
 #[cfg(test)]
 mod applying;
 #[cfg(test)]

@@ -1,4 +1,6 @@
 // Versions of a table: which files a version has, and which rows.
+#![tactic(auto)]
+
 pub mod history;
 pub mod kept;
 pub mod laws;

@@ -1,4 +1,6 @@
 // Writers of a table: begin, look, put and stop, and what they promise together.
+#![tactic(auto)]
+
 ghost use Rattle.std.specs.Prelude.{◌≡◌, vec_len};
 
 use crate::writer::Writer;

@@ -8,9 +8,9 @@ pub loop-row-init : goal.loop-row-init
 unfolding raised
 loop-row-init c = (c.new-all.ensures.items, refl)
 
-pub returns-in-default : goal.returns-in-default
-returns-in-default c =
-    let met = limit_met c.args.span c.args.by c.args.rows.now c.loop-row.row-index _ (omega arith) c.in-default.ensures in
+pub returns-in_default : goal.returns-in_default
+returns-in_default c =
+    let met = limit_met c.args.span c.args.by c.args.rows.now c.loop-row.row-index _ (omega arith) c.in_default.ensures in
     raise_refused c.args.span c.args.by c.args.rows.now (sym c.loop-row.invariant.1 ∙ met)
 
 pub loop-row-preserved : goal.loop-row-preserved
@@ -21,10 +21,10 @@ loop-row-preserved c =
     let i = c.loop-row.row-index in
     let all = raised_more s xs i _ (omega arith) n c.in-Some.changed c.in-Some.ensures in
     let limit = limit_more s n xs i _ (omega arith) c.in-Some.changed c.in-Some.ensures in
-    let pushed = c.in-ok-push.ensures.items in
+    let pushed = c.in_ok-push.ensures.items in
     (cc (all, pushed, c.loop-row.invariant.0), limit ∙ c.loop-row.invariant.1)
 
 pub returns : goal.returns
 returns c =
     let inv = c.loop-row.invariant in
-    raise_applied c.args.span c.args.rows.now (vec_items c.loop-row.all) c.loop-row.row-index c.count-within.result (omega arith) c.count-within.ensures c.args.by inv.0 inv.1
+    raise_applied c.args.span c.args.rows.now (vec_items c.loop-row.all) c.loop-row.row-index c.count_within.result (omega arith) c.count_within.ensures c.args.by inv.0 inv.1

@@ -4,4 +4,4 @@ use Rattle.rows.proofs.apply.unchanged.Goals as goal
 
 pub returns : goal.returns
 unfolding done_to touched
-returns c = ap (λ rs. Ok (record { rows = rs; touched = 0 })) c.in-ok-from-slice.ensures.items
+returns c = ap (λ rs. Ok (record { rows = rs; touched = 0 })) c.in_ok-from_slice.ensures.items
