@@ -6,11 +6,11 @@ use Rattle.codec.proofs.entry.entry_length.Goals as goal
 front : (c : goal.In-Some) → Front (entry_of c.args.entry.now) c.in-Some.words c.in-Some.field-0-1
 front c = front_is _ c.in-Some.words c.in-Some.field-0-1 c.in-Some.ensures
 
-pub overflow-add-result : goal.overflow-add-result
-overflow-add-result c = omega (arith, (front c).ranges)
+pub overflow_add-result : goal.overflow_add-result
+overflow_add-result c = omega (arith, (front c).fits)
 
-pub overflow-mul-result : goal.overflow-mul-result
-overflow-mul-result c = omega (arith, (front c).ranges)
+pub overflow_mul-result : goal.overflow_mul-result
+overflow_mul-result c = omega (arith, (front c).fits)
 
 pub returns : goal.returns
 returns c = length_done (entry_of c.args.entry.now) c.in-Some.words c.in-Some.field-0-1 (front c)

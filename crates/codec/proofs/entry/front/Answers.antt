@@ -6,15 +6,15 @@ use Rattle.codec.proofs.entry.front.Goals as goal
 pub returns-then-entry-ge-WRITERS : goal.returns-then-entry-ge-WRITERS
 returns-then-entry-ge-WRITERS c = writer_unfit (entry_of c.args.entry.now) (omega arith)
 
-pub returns-in-default : goal.returns-in-default
-returns-in-default c =
-    let adds = c.as-slice.result.now in
-    let takes = c.as-slice-2.result.now in
-    files_unfit (entry_of c.args.entry.now) adds takes c.as-slice.ensures.value c.as-slice-2.ensures.value (files_none adds takes c.in-default.ensures)
+pub returns-in_default : goal.returns-in_default
+returns-in_default c =
+    let adds = c.as_slice.result.now in
+    let takes = c.as_slice-2.result.now in
+    files_unfit (entry_of c.args.entry.now) adds takes c.as_slice.ensures.value c.as_slice-2.ensures.value (files_none adds takes c.in_default.ensures)
 
 pub returns : goal.returns
 returns c =
     let change = c.args.entry.now.change in
-    front_done (entry_of c.args.entry.now) c.as-slice.result.now c.as-slice-2.result.now c.head-words-head.result c.in-Some.count c.len.result c.len-2.result c.as-slice.ensures.value c.as-slice-2.ensures.value
-    c.in-Some.ensures (omega arith) (omega arith) (omega arith) c.head-words-head.ensures.fit (omega arith) c.head-words-head.ensures.value
+    front_done (entry_of c.args.entry.now) c.as_slice.result.now c.as_slice-2.result.now c.head_words-head.result c.in-Some.count c.len.result c.len-2.result c.as_slice.ensures.value c.as_slice-2.ensures.value
+    c.in-Some.ensures (omega arith) (omega arith) (omega arith) c.head_words-head.ensures.fit (omega arith) c.head_words-head.ensures.value
     (c.len.ensures ∙ change.adds.ok.0) (c.len-2.ensures ∙ change.takes.ok.0)

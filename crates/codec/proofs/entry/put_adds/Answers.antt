@@ -11,7 +11,7 @@ loop-i-init c = put_none (8 * c.args.k) c.args.out.now
 
 pub loop-i-preserved : goal.loop-i-preserved
 loop-i-preserved c =
-    put_add c.args.adds.now c.args.k c.loop-i.i (added_of 0 0 0) c.args.out.now c.loop-i.out c.put-words.new.out (omega arith) (omega arith) c.loop-i.invariant c.put-words.ensures.after
+    put_add c.args.adds.now c.args.k c.loop-i.i (added_of 0 0 0) c.args.out.now c.loop-i.out c.put_words.new.out (omega arith) (omega arith) c.loop-i.invariant c.put_words.ensures.after
 
 pub returns : goal.returns
 returns c = c.loop-i.invariant ∙ ap (λ l. put_at (8 * c.args.k) (bytes_of (added_words l)) c.args.out.now) (take_all c.loop-i.i c.args.adds.now (omega arith))

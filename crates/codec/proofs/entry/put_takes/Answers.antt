@@ -9,7 +9,7 @@ pub loop-i-init : goal.loop-i-init
 loop-i-init c = put_none (8 * c.args.k) c.args.out.now
 
 pub loop-i-preserved : goal.loop-i-preserved
-loop-i-preserved c = put_take c.args.takes.now c.args.k c.loop-i.i c.args.out.now c.loop-i.out c.put-words.new.out (omega arith) (omega arith) c.loop-i.invariant c.put-words.ensures.after
+loop-i-preserved c = put_take c.args.takes.now c.args.k c.loop-i.i c.args.out.now c.loop-i.out c.put_words.new.out (omega arith) (omega arith) c.loop-i.invariant c.put_words.ensures.after
 
 pub returns : goal.returns
 returns c = c.loop-i.invariant ∙ ap (λ l. put_at (8 * c.args.k) (bytes_of l) c.args.out.now) (take_all c.loop-i.i c.args.takes.now (omega arith))

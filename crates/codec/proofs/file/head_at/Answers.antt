@@ -7,5 +7,5 @@ returns-then-n-lt3 c = head_short c.args.bytes.now c.args.n c.requires (omega ar
 
 pub returns : goal.returns
 returns c =
-    c.head-from.ensures
-    ∙ head_reads c.args.bytes.now c.args.n c.requires c.word-at.result c.word-at-2.result c.word-at-3.result (omega arith) c.word-at.ensures c.word-at-2.ensures c.word-at-3.ensures
+    c.head_from.ensures
+    ∙ head_reads c.args.bytes.now c.args.n c.requires c.word_at.result c.word_at-2.result c.word_at-3.result (omega arith) c.word_at.ensures c.word_at-2.ensures c.word_at-3.ensures

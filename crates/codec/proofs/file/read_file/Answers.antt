@@ -2,25 +2,25 @@ use Rattle.std.proofs.Common.{arith}
 use Rattle.codec.proofs.FileReads.{file_not_sealed, file_headless, many_rows, file_bad, file_good}
 use Rattle.codec.proofs.file.read_file.Goals as goal
 
-pub returns-in-default : goal.returns-in-default
-returns-in-default c = file_not_sealed c.args.bytes.now c.in-default.ensures
+pub returns-in_default : goal.returns-in_default
+returns-in_default c = file_not_sealed c.args.bytes.now c.in_default.ensures
 
-pub returns-in-default-head-at : goal.returns-in-default-head-at
-returns-in-default-head-at c =
+pub returns-in_default-head_at : goal.returns-in_default-head_at
+returns-in_default-head_at c =
     let sealed = c.in-Some.ensures in
-    file_headless c.args.bytes.now c.in-Some.n sealed.1 sealed.0 c.in-default-head-at.ensures
+    file_headless c.args.bytes.now c.in-Some.n sealed.1 sealed.0 c.in_default-head_at.ensures
 
-pub rows-fit-requires : goal.rows-fit-requires
-rows-fit-requires c =
+pub rows_fit-requires : goal.rows_fit-requires
+rows_fit-requires c =
     let sealed = c.in-Some.ensures in
-    omega (arith, sealed.1, many_rows c.args.bytes.now c.in-Some.n sealed.1 sealed.0 c.in-Some-head-at.head c.in-Some-head-at.ensures)
+    omega (arith, sealed.1, many_rows c.args.bytes.now c.in-Some.n sealed.1 sealed.0 c.in-Some-head_at.head c.in-Some-head_at.ensures)
 
-pub returns-then-not-rows-fit : goal.returns-then-not-rows-fit
-returns-then-not-rows-fit c =
+pub returns-then-not-rows_fit : goal.returns-then-not-rows_fit
+returns-then-not-rows_fit c =
     let sealed = c.in-Some.ensures in
-    file_bad c.args.bytes.now c.in-Some.n sealed.1 sealed.0 c.in-Some-head-at.head c.in-Some-head-at.ensures c.if-not-rows-fit.ensures
+    file_bad c.args.bytes.now c.in-Some.n sealed.1 sealed.0 c.in-Some-head_at.head c.in-Some-head_at.ensures c.if-not-rows_fit.ensures
 
 pub returns : goal.returns
 returns c =
     let sealed = c.in-Some.ensures in
-    file_good c.args.bytes.now c.in-Some.n sealed.1 sealed.0 c.in-Some-head-at.head c.in-Some-head-at.ensures c.if-not-rows-fit.ensures
+    file_good c.args.bytes.now c.in-Some.n sealed.1 sealed.0 c.in-Some-head_at.head c.in-Some-head_at.ensures c.if-not-rows_fit.ensures

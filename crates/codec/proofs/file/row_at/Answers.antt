@@ -9,4 +9,4 @@ pub returns-then-i-n : goal.returns-then-i-n
 returns-then-i-n c = row_missing c.args.bytes.now c.args.i (omega arith)
 
 pub returns : goal.returns
-returns c = c.row-of.ensures ∙ row_reads c.args.bytes.now c.args.i c.word-at.result c.word-at-2.result (omega arith) c.word-at.ensures c.word-at-2.ensures
+returns c = c.row_of.ensures ∙ row_reads c.args.bytes.now c.args.i c.word_at.result c.word_at-2.result (omega arith) c.word_at.ensures c.word_at-2.ensures

@@ -9,8 +9,8 @@ use Rattle.codec.proofs.rewrite.put_all.Goals as goal
 pub loop-i-init : goal.loop-i-init
 loop-i-init c = all_start c.args.rewrite c.args.bytes.now c.args.target c.args.sources.now c.requires.inside c.requires.valid c.requires.room
 
-pub put-rows-progress-requires : goal.put-rows-progress-requires
-put-rows-progress-requires c =
+pub put_rows-progress-requires : goal.put_rows-progress-requires
+put_rows-progress-requires c =
     record {
       inside = omega (arith, c.loop-i.invariant.4, c.requires.inside);
       valid = all_valid c.args.rewrite c.args.bytes.now c.args.target c.args.sources.now c.requires.inside c.requires.valid c.requires.room
@@ -23,7 +23,7 @@ pub loop-i-preserved : goal.loop-i-preserved
 loop-i-preserved c =
     all_more c.args.rewrite c.args.bytes.now c.args.target c.args.sources.now c.requires.inside c.requires.valid c.requires.room
     c.loop-i.i c.loop-i.bytes c.loop-i.progress.count c.loop-i.progress.keys c.loop-i.invariant _ (omega arith)
-    _ _ _ c.put-rows-progress.ensures.after c.put-rows-progress.ensures.count c.put-rows-progress.ensures.keys c.put-rows-progress.ensures.fit
+    _ _ _ c.put_rows-progress.ensures.after c.put_rows-progress.ensures.count c.put_rows-progress.ensures.keys c.put_rows-progress.ensures.fit
 
 pub returns : goal.returns
 returns c =

@@ -11,5 +11,5 @@ returns c =
     let n = c.args.n in
     let xs = c.args.bytes.now in
     let e : a + k - a ≡ k = omega arith in
-    part_put a (a + k - a) (8 * n) _ xs c.put-seal.new.out (omega arith) (omega (arith, length_bytes_of ((sum (take n (words_of (take (a + k - a) (drop a xs)))) % 2 ^ 64) ∷ []))) c.put-seal.ensures
+    part_put a (a + k - a) (8 * n) _ xs c.put_seal.new.out (omega arith) (omega (arith, length_bytes_of ((sum (take n (words_of (take (a + k - a) (drop a xs)))) % 2 ^ 64) ∷ []))) c.put_seal.ensures
     ∙ ap (λ m. put_at (a + 8 * n) (bytes_of ((sum (take n (words_of (take m (drop a xs)))) % 2 ^ 64) ∷ [])) xs) e

@@ -2,8 +2,8 @@ use Rattle.std.proofs.Common.{refl, ◌∙◌, arith}
 use Rattle.codec.proofs.LentFiles.{lent_more, lent_stop, lent_end}
 use Rattle.codec.proofs.write.lent_keys.Goals as goal
 
-pub returns-in-default : goal.returns-in-default
-returns-in-default c = lent_stop c.args.lent.now c.loop-i.i (omega arith) c.in-default.ensures c.loop-i.invariant.0
+pub returns-in_default : goal.returns-in_default
+returns-in_default c = lent_stop c.args.lent.now c.loop-i.i (omega arith) c.in_default.ensures c.loop-i.invariant.0
 
 pub loop-i-preserved : goal.loop-i-preserved
 loop-i-preserved c = lent_more c.args.lent.now c.loop-i.i (omega arith) c.in-Some.row c.loop-i.keys c.widened-keys.result c.in-Some.ensures c.widened-keys.ensures c.loop-i.invariant

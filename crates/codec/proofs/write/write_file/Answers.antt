@@ -8,15 +8,15 @@ returns-then-count-eq0 c =
     let lent = c.args.lent.now in
     lent_not_written c.args.number c.args.began lent c.args.out.now (writes_no_count (file c.args.number c.args.began (pairs lent)) _ (count_none (length (pairs lent)) (omega (arith, length_lent lent))))
 
-pub returns-then-count-gt-MOST-ROWS : goal.returns-then-count-gt-MOST-ROWS
-returns-then-count-gt-MOST-ROWS c =
+pub returns-then-count-gt-MOST_ROWS : goal.returns-then-count-gt-MOST_ROWS
+returns-then-count-gt-MOST_ROWS c =
     let lent = c.args.lent.now in
     lent_not_written c.args.number c.args.began lent c.args.out.now (writes_no_count (file c.args.number c.args.began (pairs lent)) _ (count_many (length (pairs lent)) (omega (arith, length_lent lent))))
 
-pub returns-in-default : goal.returns-in-default
-returns-in-default c =
+pub returns-in_default : goal.returns-in_default
+returns-in_default c =
     let lent = c.args.lent.now in
-    lent_not_written c.args.number c.args.began lent c.args.out.now (writes_no_rows (file c.args.number c.args.began (pairs lent)) _ (lent_keys_none lent c.in-default.ensures))
+    lent_not_written c.args.number c.args.began lent c.args.out.now (writes_no_rows (file c.args.number c.args.began (pairs lent)) _ (lent_keys_none lent c.in_default.ensures))
 
 pub returns-then-out-length : goal.returns-then-out-length
 returns-then-out-length c =
@@ -25,6 +25,6 @@ returns-then-out-length c =
 
 pub returns : goal.returns
 returns c =
-    lent_is_written c.args.number c.args.began c.args.lent.now c.args.out.now c.put-words.new.out c.put-words-2.new.out c.put-seal.new.out c.in-Some.keys
+    lent_is_written c.args.number c.args.began c.args.lent.now c.args.out.now c.put_words.new.out c.put_words-2.new.out c.put_seal.new.out c.in-Some.keys
     (omega arith) (omega arith) (omega arith) (omega arith) c.in-Some.ensures (omega arith)
-    c.put-words.ensures.fit c.put-words-2.ensures.fit c.put-words.ensures.after c.put-words-2.ensures.after c.put-seal.ensures
+    c.put_words.ensures.fit c.put_words-2.ensures.fit c.put_words.ensures.after c.put_words-2.ensures.after c.put_seal.ensures
