@@ -4,19 +4,19 @@ use Rattle.store.proofs.ExportLaws.{length_within}
 use Rattle.store.proofs.SlotLaws.{slot_inside}
 use Rattle.store.proofs.Store.push_slot.Goals as goal
 
-pub overflow-mul-start : goal.overflow-mul-start
-overflow-mul-start c =
+pub overflow_mul-start : goal.overflow_mul-start
+overflow_mul-start c =
     let p = slot_inside c.args.self.now.most_rows (length c.args.directory.now) (length c.args.files.now) c.args.slot c.requires in
     omega (arith, p.1, ap (λ k. c.args.slot * k) c.slot_size.ensures)
 
-pub overflow-add-end : goal.overflow-add-end
-overflow-add-end c =
+pub overflow_add-end : goal.overflow_add-end
+overflow_add-end c =
     let p = slot_inside c.args.self.now.most_rows (length c.args.directory.now) (length c.args.files.now) c.args.slot c.requires in
     let q = length_within (length_at c.args.directory.now c.args.slot) (slot_size c.args.self.now.most_rows) in
-    omega (arith, p.1, q, ap (λ k. c.args.slot * k) c.slot_size.ensures, c.slot-length.ensures)
+    omega (arith, p.1, q, ap (λ k. c.args.slot * k) c.slot_size.ensures, c.slot_length.ensures)
 
-pub slice-bounds-push-file-end : goal.slice-bounds-push-file-end
-slice-bounds-push-file-end c =
+pub slice_bounds-push_file-end : goal.slice_bounds-push_file-end
+slice_bounds-push_file-end c =
     let p = slot_inside c.args.self.now.most_rows (length c.args.directory.now) (length c.args.files.now) c.args.slot c.requires in
     let q = length_within (length_at c.args.directory.now c.args.slot) (slot_size c.args.self.now.most_rows) in
-    omega (arith, p.1, q, ap (λ k. c.args.slot * k) c.slot_size.ensures, c.slot-length.ensures)
+    omega (arith, p.1, q, ap (λ k. c.args.slot * k) c.slot_size.ensures, c.slot_length.ensures)

@@ -8,4 +8,4 @@ pub returns : goal.returns
 returns c =
     let s = files_of c.args.self.now c.args.directory.now c.args.files.now in
     let l = log_of c.args.self.now c.args.ends.now c.args.log.now in
-    ap Ok (written_out c.args.self.now.horizon s l c.header.result (vec_items c.new-out.result) _ _ _ c.new-out.ensures.items c.header.ensures c.in-ok-push-header.ensures c.in-ok-push-files.ensures c.in-ok-push-entries.ensures)
+    ap Ok (written_out c.args.self.now.horizon s l c.header.result (vec_items c.new-out.result) _ _ _ c.new-out.ensures.items c.header.ensures c.in_ok-push_header.ensures c.in_ok-push_files.ensures c.in_ok-push_entries.ensures)

@@ -7,6 +7,6 @@ use Rattle.store.proofs.export.push_counted.Goals as goal
 pub returns : goal.returns
 returns c =
     let bs = c.args.bytes.now in
-    c.in-ok-extend-from-slice.ensures.items
-    ∙ ap (λ l. l ++ bs) c.in-ok-push-word.ensures
+    c.in_ok-extend_from_slice.ensures.items
+    ∙ ap (λ l. l ++ bs) c.in_ok-push_word.ensures
     ∙ append_assoc (vec_items c.args.out.now) (bytes_of (length bs ∷ [])) bs

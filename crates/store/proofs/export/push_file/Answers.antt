@@ -5,4 +5,4 @@ use Rattle.store.proofs.ExportLaws.{appends_then}
 use Rattle.store.proofs.export.push_file.Goals as goal
 
 pub returns : goal.returns
-returns c = appends_then c.push-counted.result (vec_items c.args.out.now) _ _ (bytes_of (c.args.number ∷ [])) (counted c.args.bytes.now) c.in-ok-push-word.ensures c.push-counted.ensures
+returns c = appends_then c.push_counted.result (vec_items c.args.out.now) _ _ (bytes_of (c.args.number ∷ [])) (counted c.args.bytes.now) c.in_ok-push_word.ensures c.push_counted.ensures

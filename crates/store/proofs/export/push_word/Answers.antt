@@ -5,5 +5,5 @@ use Rattle.store.proofs.export.push_word.Goals as goal
 -- src/export.rt:15:1
 pub returns : goal.returns
 returns c =
-    c.in-ok-extend-from-slice.ensures.items
-    ∙ ap (λ l. vec_items c.args.out.now ++ l) (c.to-le-bytes.ensures ∙ bytes_eight c.args.word ∙ sym (bytes_of_one c.args.word))
+    c.in_ok-extend_from_slice.ensures.items
+    ∙ ap (λ l. vec_items c.args.out.now ++ l) (c.to_le_bytes.ensures ∙ bytes_eight c.args.word ∙ sym (bytes_of_one c.args.word))
