@@ -1,9 +1,8 @@
 -- Numbers as a set, and the files after a change, step by step.
 use Rattle.std.proofs.Common.{◌≡◌, ℕ, ◌+◌, ◌<◌, ◌≤◌, Bool, true, false, cond, not, ◌||◌, eqb, List, [], ◌∷◌, ◌++◌, map, length, get_or, take, drop, Ok, Err, filter, Result, sym, refl, ap, ◌∙◌, arith, MatchResult}
-use Rattle.std.specs.BTreeSet.{contains as in-set}
+use Rattle.std.specs.BTreeSet.{Updates, contains as in_set}
 use Rattle.std.specs.Cmp.{unsigned_tied}
 use Rattle.std.specs.BTreeSet.{BTreeSet}
-use Rattle.std.proofs.lemmas.Map.Contents.{BTreeSetAfterUpdate}
 use Rattle.std.proofs.lemmas.List.{append_assoc, append-nil, map_more, take_all, take_more}
 use Rattle.std.proofs.lemmas.Bool.{eqb-true, eq-eqb, or_left, or_right}
 use Rattle.std.proofs.lemmas.Bool.Decides.{nat_tests}
@@ -21,14 +20,17 @@ has_more xs i n h =
     let more : any (eqb n) (take (i + 1) xs) ≡ (any (eqb n) (take i xs) || any (eqb n) (get_or xs i 0 ∷ [])) = ap (any (eqb n)) (take_more xs i 0 h) ∙ any_append (eqb n) (take i xs) (get_or xs i 0 ∷ []) in
     grind (arith, nat_tests)
 
+eqb_flip : (a b : ℕ) → eqb a b ≡ false → eqb b a ≡ false
+eqb_flip a b e = grind (arith, nat_tests)
+
 -- a number more in the set
-pub set_more : (s t : BTreeSet ℕ) (xs : List ℕ) (i : ℕ) → i < length xs → BTreeSetAfterUpdate nat_cmp s t (get_or xs i 0) true → ((n : ℕ) → in-set nat_cmp s n ≡ has (take i xs) n) → (n : ℕ) → in-set nat_cmp t n ≡ has (take (i + 1) xs) n
+pub set_more : (s t : BTreeSet ℕ) (xs : List ℕ) (i : ℕ) → i < length xs → Updates nat_cmp s t (get_or xs i 0) true → ((n : ℕ) → in_set nat_cmp s n ≡ has (take i xs) n) → (n : ℕ) → in_set nat_cmp t n ≡ has (take (i + 1) xs) n
 set_more s t xs i h put inv n = go (eqb n (get_or xs i 0)) refl
   where
-    go : (b : Bool) → eqb n (get_or xs i 0) ≡ b → in-set nat_cmp t n ≡ has (take (i + 1) xs) n
-    go true f = ap (in-set nat_cmp t) (eqb-true n (get_or xs i 0) f) ∙ put.here ∙ sym (has_more xs i n h ∙ or_right (has (take i xs) n) (eqb n (get_or xs i 0)) f)
+    go : (b : Bool) → eqb n (get_or xs i 0) ≡ b → in_set nat_cmp t n ≡ has (take (i + 1) xs) n
+    go true f = ap (in_set nat_cmp t) (eqb-true n (get_or xs i 0) f) ∙ put.1 ∙ sym (has_more xs i n h ∙ or_right (has (take i xs) n) (eqb n (get_or xs i 0)) f)
     go false f =
-        let here : in-set nat_cmp t n ≡ has (take i xs) n = put.other n (unsigned_tied n (get_or xs i 0) ∙ f) ∙ inv n in
+        let here : in_set nat_cmp t n ≡ has (take i xs) n = put.2 n (unsigned_tied (get_or xs i 0) n ∙ eqb_flip n (get_or xs i 0) f) ∙ inv n in
         let there : has (take (i + 1) xs) n ≡ (has (take i xs) n || eqb n (get_or xs i 0)) = has_more xs i n h in
         grind (arith, nat_tests)
 
@@ -37,9 +39,9 @@ kept_by_same p q h [] = refl
 kept_by_same p q h (x ∷ xs) = let e = h x in let ih = kept_by_same p q h xs in cc
 
 -- what is left, by the set of what is taken
-pub minus_by_set : (s : BTreeSet ℕ) (live takes : List ℕ) → ((n : ℕ) → in-set nat_cmp s n ≡ has takes n) → filter (λ n. not (in-set nat_cmp s n)) live ≡ minus live takes
+pub minus_by_set : (s : BTreeSet ℕ) (live takes : List ℕ) → ((n : ℕ) → in_set nat_cmp s n ≡ has takes n) → filter (λ n. not (in_set nat_cmp s n)) live ≡ minus live takes
 unfolding minus
-minus_by_set s live takes h = kept_by_same (λ n. not (in-set nat_cmp s n)) (λ n. not (has takes n)) (λ n. ap not (h n)) live
+minus_by_set s live takes h = kept_by_same (λ n. not (in_set nat_cmp s n)) (λ n. not (has takes n)) (λ n. ap not (h n)) live
 
 -- one element more behind what was there
 pub push_behind : {A : Type 0} (a m old new : List A) (x : A) → old ≡ a ++ m → new ≡ old ++ x ∷ [] → new ≡ a ++ (m ++ x ∷ [])

@@ -1,6 +1,6 @@
 // The files of a table after a change: those that it takes go, and those that it adds come behind the others.
 ghost use Rattle.std.specs.Prelude.{◌≡◌, not, ◌++◌, filter, MatchResult};
-ghost use Rattle.std.specs.BTreeSet.{contains as in-set};
+ghost use Rattle.std.specs.BTreeSet.{contains as in_set};
 ghost use Rattle.rows.specs.declared.refusal.Refusal.TheVariants.{OutOfMemory};
 ghost use Rattle.codec.specs.Entries.{change_of};
 ghost use Rattle.versions.specs.Alive.{numbers, after};
@@ -14,7 +14,7 @@ use std::collections::BTreeSet;
 
 // Keeps the numbers that are not in a set.
 fn keep_others(numbers: &mut Vec<u32>, taken: &BTreeSet<u32>)
-    ensures { numbers.new.items ≡ filter (λ n. not (in-set nat_cmp taken.now n)) numbers.old.items }
+    ensures { numbers.new.items ≡ filter (λ n. not (in_set nat_cmp taken.now n)) numbers.old.items }
 {
     let mut filled = 0;
     for i in 0..numbers.len() {

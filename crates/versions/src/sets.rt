@@ -1,6 +1,6 @@
 // Numbers of files as a set.
 ghost use Rattle.std.specs.Prelude.{◌≡◌, ℕ, MatchResult};
-ghost use Rattle.std.specs.BTreeSet.{IsOrdered, contains as in-set};
+ghost use Rattle.std.specs.BTreeSet.{IsOrdered, contains as in_set};
 ghost use Rattle.rows.specs.declared.refusal.Refusal.TheVariants.{OutOfMemory};
 ghost use Rattle.versions.specs.Alive.{has};
 ghost use Rattle.std.specs.Ordering.{nat_cmp};
@@ -11,7 +11,7 @@ use std::collections::BTreeSet;
 
 // Numbers as a set.
 pub fn set_of(heap: Global, numbers: &[u32]) -> Result<BTreeSet<u32>, Refusal>
-    ensures { MatchResult result (λ s. IsOrdered nat_cmp s × ((n : ℕ) → in-set nat_cmp s n ≡ has numbers.now n)) (λ e. e ≡ OutOfMemory) }
+    ensures { MatchResult result (λ s. IsOrdered nat_cmp s × ((n : ℕ) → in_set nat_cmp s n ≡ has numbers.now n)) (λ e. e ≡ OutOfMemory) }
 {
     let mut set = BTreeSet::new(heap);
     for number in numbers {

@@ -6,7 +6,7 @@ use Rattle.versions.proofs.live.keep_others.Goals.{then-not-contains, else-not-c
 pub loop-i-preserved : goal.loop-i-preserved
 loop-i-preserved c =
     let x = c.index.result.now in
-    let found = c.contains.ensures.finds x refl c.requires in
+    let found = c.contains.ensures in
     elim c.if-not-contains.branch [
       | then-not-contains w ↦ rw (w.numbers-is, w.filled-is) (FiltersInPlace-more_set c.loop-i.invariant (omega arith) (ap not (sym found ∙ w.if-not-contains.true)) c.index.ensures)
       | else-not-contains w ↦ rw (w.numbers-is, w.filled-is) (FiltersInPlace-more_no c.loop-i.invariant (omega arith) (ap not (sym found ∙ w.if-not-contains.false)) c.index.ensures)

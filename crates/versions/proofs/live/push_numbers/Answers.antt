@@ -9,7 +9,7 @@ loop-added-preserved c =
     let adds = c.args.adds.now in
     let i = c.loop-added.added-index in
     let old = vec_items c.args.live.now in
-    let p = push_behind old (numbers (take i adds)) (vec_items c.loop-added.live) (vec_items c.push.new.self) _ c.loop-added.invariant c.in-ok-push.ensures.items in
+    let p = push_behind old (numbers (take i adds)) (vec_items c.loop-added.live) (vec_items c.push.new.self) _ c.loop-added.invariant c.in_ok-push.ensures.items in
     p ∙ ap (λ l. old ++ l) (sym (numbers_more adds i _ (omega arith)))
 
 pub returns : goal.returns

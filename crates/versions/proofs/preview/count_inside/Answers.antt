@@ -5,7 +5,7 @@ use Rattle.rows.proofs.Rows.{many_more_in, many_more_out}
 use Rattle.codec.specs.Rewrites.{rows_in}
 use Rattle.versions.proofs.StoredLaws.{row_is, row_always}
 use Rattle.versions.proofs.preview.count_inside.Goals as goal
-use Rattle.versions.proofs.preview.count_inside.Goals.{in-Some+then-contains, in-Some+else-contains, in-default}
+use Rattle.versions.proofs.preview.count_inside.Goals.{in-Some+then-contains, in-Some+else-contains, in_default}
 
 pub loop-i-init : goal.loop-i-init
 unfolding many_within
@@ -17,7 +17,7 @@ loop-i-preserved c =
     let rs = rows_in bytes in
     let i = c.loop-i.i in
     let s = c.args.span in
-    elim c.match-row-at.branch [
+    elim c.match-row_at.branch [
       | in-Some+then-contains w ↦
           let r = w.in-Some.row in
           let t : true ≡ within s r = w.if-contains.ensures in
@@ -30,7 +30,7 @@ loop-i-preserved c =
           let here = row_is bytes c.args.count i c.requires (omega arith) r w.in-Some.ensures in
           let more = many_more_out s rs i r (omega (arith, c.requires.1)) (t ∙ ap (within s) (sym here)) in
           (omega (arith, w.inside-is, c.loop-i.invariant.0, more), omega (arith, w.inside-is, c.loop-i.invariant.1))
-      | in-default w ↦ absurd (row_always bytes c.args.count i c.requires (omega arith) w.in-default.ensures)
+      | in_default w ↦ absurd (row_always bytes c.args.count i c.requires (omega arith) w.in_default.ensures)
     ]
 
 pub returns : goal.returns

@@ -13,7 +13,7 @@ use Rattle.versions.proofs.GatherLaws.{gather_start, gather_go, gather_stop, gat
 use Rattle.versions.proofs.PreviewLaws.{preview_yes, preview_no}
 use Rattle.versions.proofs.StoredLaws.{stored_lies, part_slice}
 use Rattle.versions.proofs.preview.files_in_span.Goals as goal
-use Rattle.versions.proofs.preview.files_in_span.Goals.{then-inside-gt0+in-ok-push, else-inside-gt0}
+use Rattle.versions.proofs.preview.files_in_span.Goals.{then-inside-gt0+in_ok-push, else-inside-gt0}
 
 pub loop-number-init : goal.loop-number-init
 unfolding previews
@@ -22,41 +22,41 @@ loop-number-init c =
     let find = preview_found s c.args.span in
     ap (λ l. behind l (gathered find DamagedFile c.args.numbers.now)) c.new-found.ensures.items ∙ gather_start find DamagedFile c.args.numbers.now
 
-pub returns-in-default : goal.returns-in-default
+pub returns-in_default : goal.returns-in_default
 unfolding previews
-returns-in-default c =
+returns-in_default c =
     let s = files_of c.args.store.now c.args.directory.now c.args.files.now in
     let ns = c.args.numbers.now in
     let i = c.loop-number.number-index in
-    gather_stop (preview_found s c.args.span) DamagedFile (vec_items c.loop-number.found) _ _ c.loop-number.invariant (get_or ns i 0) _ (drop_more ns i 0 (omega arith)) (ap (option_map (preview_of s c.args.span)) (sym c.in-default.ensures))
+    gather_stop (preview_found s c.args.span) DamagedFile (vec_items c.loop-number.found) _ _ c.loop-number.invariant (get_or ns i 0) _ (drop_more ns i 0 (omega arith)) (ap (option_map (preview_of s c.args.span)) (sym c.in_default.ensures))
 
-pub overflow-add-end : goal.overflow-add-end
-overflow-add-end c =
+pub overflow_add-end : goal.overflow_add-end
+overflow_add-end c =
     let s = files_of c.args.store.now c.args.directory.now c.args.files.now in
     let n = get_or c.args.numbers.now c.loop-number.number-index 0 in
     let h : c.in-Some.file.part.start + c.in-Some.file.part.length ≤ length c.args.files.now = (stored_lies s n c.in-Some.file c.in-Some.ensures).inside in
     search rules
 
-pub slice-bounds-count-inside-end : goal.slice-bounds-count-inside-end
-slice-bounds-count-inside-end c =
+pub slice_bounds-count_inside-end : goal.slice_bounds-count_inside-end
+slice_bounds-count_inside-end c =
     let s = files_of c.args.store.now c.args.directory.now c.args.files.now in
     let n = get_or c.args.numbers.now c.loop-number.number-index 0 in
     let h : c.in-Some.file.part.start + c.in-Some.file.part.length ≤ length c.args.files.now = (stored_lies s n c.in-Some.file c.in-Some.ensures).inside in
     search rules
 
-pub count-inside-inside-requires : goal.count-inside-inside-requires
-count-inside-inside-requires c =
+pub count_inside-inside-requires : goal.count_inside-inside-requires
+count_inside-inside-requires c =
     let s = files_of c.args.store.now c.args.directory.now c.args.files.now in
     let n = get_or c.args.numbers.now c.loop-number.number-index 0 in
     let x = c.in-Some.file in
     subst (λ (l : List ℕ). HasRows l x.head.count) (sym (part_slice x.part c.args.files.now)) (stored_lies s n x c.in-Some.ensures).rows
 
-pub overflow-sub-stays : goal.overflow-sub-stays
-overflow-sub-stays c =
+pub overflow_sub-stays : goal.overflow_sub-stays
+overflow_sub-stays c =
     let s = files_of c.args.store.now c.args.directory.now c.args.files.now in
     let n = get_or c.args.numbers.now c.loop-number.number-index 0 in
     let x = c.in-Some.file in
-    let inside = c.count-inside-inside.ensures ∙ ap (λ l. many_within c.args.span (rows_in l)) (part_slice x.part c.args.files.now) in
+    let inside = c.count_inside-inside.ensures ∙ ap (λ l. many_within c.args.span (rows_in l)) (part_slice x.part c.args.files.now) in
     omega (arith, inside, many_le_length c.args.span (stored_rows s x), (stored_lies s n x c.in-Some.ensures).rows.1)
 
 pub loop-number-preserved : goal.loop-number-preserved
@@ -68,13 +68,13 @@ loop-number-preserved c =
     let i = c.loop-number.number-index in
     let n = get_or ns i 0 in
     let x = c.in-Some.file in
-    let inside = c.count-inside-inside.ensures ∙ ap (λ l. many_within span (rows_in l)) (part_slice x.part c.args.files.now) in
+    let inside = c.count_inside-inside.ensures ∙ ap (λ l. many_within span (rows_in l)) (part_slice x.part c.args.files.now) in
     let rows = (stored_lies s n x c.in-Some.ensures).rows.1 in
     let rest = gathered (preview_found s span) DamagedFile (drop (i + 1) ns) in
     let old = vec_items c.loop-number.found in
     let new : vec_items c.if-inside-gt0.found ≡ old ++ preview_of s span x = elim c.if-inside-gt0.branch [
-      | then-inside-gt0+in-ok-push w ↦ ap vec_items w.found-is ∙ w.in-ok-push.ensures.items ∙ ap (λ l. old ++ l) (preview_yes s span x c.count-inside-inside.result inside rows w.if-inside-gt0.true)
-      | else-inside-gt0 w ↦ ap vec_items w.found-is ∙ sym (append-nil old) ∙ ap (λ l. old ++ l) (preview_no s span x c.count-inside-inside.result inside w.if-inside-gt0.false)
+      | then-inside-gt0+in_ok-push w ↦ ap vec_items w.found-is ∙ w.in_ok-push.ensures.items ∙ ap (λ l. old ++ l) (preview_yes s span x c.count_inside-inside.result inside rows w.if-inside-gt0.true)
+      | else-inside-gt0 w ↦ ap vec_items w.found-is ∙ sym (append-nil old) ∙ ap (λ l. old ++ l) (preview_no s span x c.count_inside-inside.result inside w.if-inside-gt0.false)
     ] in
     ap (λ l. behind l rest) new
     ∙ gather_go (preview_found s span) DamagedFile old _ _ c.loop-number.invariant n _ _ (drop_more ns i 0 (omega arith)) (ap (option_map (preview_of s span)) (sym c.in-Some.ensures))

@@ -16,30 +16,30 @@ loop-number-init c =
     let s = files_of c.args.store.now c.args.directory.now c.args.files.now in
     ap (λ l. behind l (gathered (rows_found s) DamagedFile c.args.numbers.now)) c.new-rows.ensures.items ∙ gather_start (rows_found s) DamagedFile c.args.numbers.now
 
-pub returns-in-default : goal.returns-in-default
+pub returns-in_default : goal.returns-in_default
 unfolding rows_held
-returns-in-default c =
+returns-in_default c =
     let s = files_of c.args.store.now c.args.directory.now c.args.files.now in
     let ns = c.args.numbers.now in
     let i = c.loop-number.number-index in
-    gather_stop (rows_found s) DamagedFile (vec_items c.loop-number.rows) _ _ c.loop-number.invariant (get_or ns i 0) _ (drop_more ns i 0 (omega arith)) (ap (option_map (stored_rows s)) (sym c.in-default.ensures))
+    gather_stop (rows_found s) DamagedFile (vec_items c.loop-number.rows) _ _ c.loop-number.invariant (get_or ns i 0) _ (drop_more ns i 0 (omega arith)) (ap (option_map (stored_rows s)) (sym c.in_default.ensures))
 
-pub overflow-add-end : goal.overflow-add-end
-overflow-add-end c =
+pub overflow_add-end : goal.overflow_add-end
+overflow_add-end c =
     let s = files_of c.args.store.now c.args.directory.now c.args.files.now in
     let n = get_or c.args.numbers.now c.loop-number.number-index 0 in
     let h : c.in-Some.file.part.start + c.in-Some.file.part.length ≤ length c.args.files.now = (stored_lies s n c.in-Some.file c.in-Some.ensures).inside in
     search rules
 
-pub slice-bounds-push-rows-end : goal.slice-bounds-push-rows-end
-slice-bounds-push-rows-end c =
+pub slice_bounds-push_rows-end : goal.slice_bounds-push_rows-end
+slice_bounds-push_rows-end c =
     let s = files_of c.args.store.now c.args.directory.now c.args.files.now in
     let n = get_or c.args.numbers.now c.loop-number.number-index 0 in
     let h : c.in-Some.file.part.start + c.in-Some.file.part.length ≤ length c.args.files.now = (stored_lies s n c.in-Some.file c.in-Some.ensures).inside in
     search rules
 
-pub push-rows-requires : goal.push-rows-requires
-push-rows-requires c =
+pub push_rows-requires : goal.push_rows-requires
+push_rows-requires c =
     let s = files_of c.args.store.now c.args.directory.now c.args.files.now in
     let n = get_or c.args.numbers.now c.loop-number.number-index 0 in
     let x = c.in-Some.file in
@@ -54,7 +54,7 @@ loop-number-preserved c =
     let x = c.in-Some.file in
     let rest = gathered (rows_found s) DamagedFile (drop (i + 1) ns) in
     let old = vec_items c.loop-number.rows in
-    ap (λ l. behind l rest) (c.in-ok-push-rows.ensures ∙ ap (λ l. old ++ rows_in l) (part_slice x.part c.args.files.now))
+    ap (λ l. behind l rest) (c.in_ok-push_rows.ensures ∙ ap (λ l. old ++ rows_in l) (part_slice x.part c.args.files.now))
     ∙ gather_go (rows_found s) DamagedFile old _ _ c.loop-number.invariant (get_or ns i 0) _ _ (drop_more ns i 0 (omega arith)) (ap (option_map (stored_rows s)) (sym c.in-Some.ensures))
 
 pub returns : goal.returns

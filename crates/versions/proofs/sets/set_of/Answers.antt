@@ -1,5 +1,6 @@
 use Rattle.std.proofs.Common.{◌≡◌, Ok, ap, ◌∙◌, arith}
-use Rattle.std.proofs.lemmas.Map.Contents.{btree-set-empty, btree-set-inserts}
+use Rattle.std.specs.List.{list_any}
+use Rattle.std.specs.Ordering.{is_eq}
 use Rattle.std.proofs.lemmas.List.{take_all}
 use Rattle.versions.specs.Alive.{has}
 use Rattle.versions.proofs.LiveLaws.{set_more}
@@ -8,12 +9,11 @@ use Rattle.std.specs.Ordering.{nat_cmp}
 
 pub loop-number-init : goal.loop-number-init
 unfolding has
-loop-number-init c = btree-set-empty nat_cmp c.new-set.result c.new-set.ensures.keys c.new-set.ensures.units
+loop-number-init c = (c.new-set.ensures.ordered, λ n. ap (list_any (λ k. is_eq (nat_cmp n k))) c.new-set.ensures.empty)
 
 pub loop-number-preserved : goal.loop-number-preserved
 loop-number-preserved c =
-    let p = btree-set-inserts nat_cmp c.loop-number.set c.insert.new.self _ (Ok c.in-ok-insert.field-0) c.in-ok-insert.ensures.inserted c.loop-number.invariant.0 in
-    (p.0, set_more c.loop-number.set c.insert.new.self c.args.numbers.now c.loop-number.number-index (omega arith) p.1.2 c.loop-number.invariant.1)
+    (c.insert.ensures.ordered, set_more c.loop-number.set c.insert.new.self c.args.numbers.now c.loop-number.number-index (omega arith) c.in_ok-insert.ensures.updates c.loop-number.invariant.1)
 
 pub returns : goal.returns
 returns c = (c.loop-number.invariant.0, λ n. c.loop-number.invariant.1 n ∙ ap (λ l. has l n) (take_all c.loop-number.number-index c.args.numbers.now (omega arith)))

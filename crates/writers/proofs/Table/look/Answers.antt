@@ -11,18 +11,18 @@ use Rattle.writers.proofs.DeskLaws.{index_some, index_none, memory_with, memory_
 use Rattle.writers.proofs.DeedLaws.{refused_does, look_nobody, look_idle, look_late, look_tried}
 use Rattle.writers.proofs.Table.look.Goals as goal
 
-pub returns-in-default : goal.returns-in-default
-returns-in-default c d fs = look_nobody c.args.writer (memory_of c.args.self.now d fs c.args.ends.now c.args.log.now) (index_none c.args.writer c.in-default.ensures)
+pub returns-in_default : goal.returns-in_default
+returns-in_default c d fs = look_nobody c.args.writer (memory_of c.args.self.now d fs c.args.ends.now c.args.log.now) (index_none c.args.writer c.in_default.ensures)
 
-pub returns-in-default-take-draft : goal.returns-in-default-take-draft
-returns-in-default-take-draft c d fs =
+pub returns-in_default-take-draft : goal.returns-in_default-take-draft
+returns-in_default-take-draft c d fs =
     let t = c.args.self.now in
     let w = c.args.writer in
     let es = c.args.ends.now in
     let l = c.args.log.now in
     let ps = map held_by (vec_items t.writers) in
     let i = index_some w c.in-Some.index c.in-Some.ensures in
-    let none : None ≡ get_or ps w None = c.in-default-take-draft.ensures.value ∙ ap (λ k. get_or ps k None) i.1 in
+    let none : None ≡ get_or ps w None = c.in_default-take-draft.ensures.value ∙ ap (λ k. get_or ps k None) i.1 in
     let idle = idle_still ps _ w (c.take-draft.ensures.after ∙ ap (λ k. set ps k None) i.1) none in
     ap (λ (m : Memory). (refused (IdleWriter w), m)) (memory_same t c.take-draft.new.self d fs es l c.take-draft.ensures.same idle) ∙ look_idle w (memory_of t d fs es l) i.0 none
 

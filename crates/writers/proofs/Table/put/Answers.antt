@@ -11,18 +11,18 @@ use Rattle.writers.proofs.DeskLaws.{index_some, index_none, memory_same, memory_
 use Rattle.writers.proofs.DeedLaws.{put_nobody, put_idle, put_full, put_not_yet, put_tried}
 use Rattle.writers.proofs.Table.put.Goals as goal
 
-pub returns-in-default : goal.returns-in-default
-returns-in-default c d fs = put_nobody c.args.writer (memory_of c.args.self.now d fs c.args.ends.now c.args.log.now) (index_none c.args.writer c.in-default.ensures)
+pub returns-in_default : goal.returns-in_default
+returns-in_default c d fs = put_nobody c.args.writer (memory_of c.args.self.now d fs c.args.ends.now c.args.log.now) (index_none c.args.writer c.in_default.ensures)
 
-pub returns-in-default-take-draft : goal.returns-in-default-take-draft
-returns-in-default-take-draft c d fs =
+pub returns-in_default-take-draft : goal.returns-in_default-take-draft
+returns-in_default-take-draft c d fs =
     let t = c.args.self.now in
     let w = c.args.writer in
     let es = c.args.ends.now in
     let l = c.args.log.now in
     let ps = map held_by (vec_items t.writers) in
     let i = index_some w c.in-Some.index c.in-Some.ensures in
-    let none : None ≡ get_or ps w None = c.in-default-take-draft.ensures.value ∙ ap (λ k. get_or ps k None) i.1 in
+    let none : None ≡ get_or ps w None = c.in_default-take-draft.ensures.value ∙ ap (λ k. get_or ps k None) i.1 in
     let idle = idle_still ps _ w (c.take-draft.ensures.after ∙ ap (λ k. set ps k None) i.1) none in
     ap (λ (m : Memory). (refused (IdleWriter w), m)) (memory_same t c.take-draft.new.self d fs es l c.take-draft.ensures.same idle) ∙ put_idle w (memory_of t d fs es l) i.0 none
 
@@ -59,8 +59,8 @@ returns-then-draft-newest c d fs =
     ap (λ (m : Memory). (not_yet, m)) (memory_same t c.give-draft-then-draft-newest.new.self d fs es l (c.give-draft-then-draft-newest.ensures.same ∙ c.take-draft.ensures.same) back)
     ∙ put_not_yet w (memory_of t d fs es l) i.0 p ready (omega (arith, c.if-newest-ge-LOG-LIMIT.false, newest)) (λ e. c.if-draft-newest.true (e ∙ sym newest))
 
-pub returns-in-default-put-entry : goal.returns-in-default-put-entry
-returns-in-default-put-entry c d fs =
+pub returns-in_default-put-entry : goal.returns-in_default-put-entry
+returns-in_default-put-entry c d fs =
     let t = c.args.self.now in
     let w = c.args.writer in
     let es = c.args.ends.now in
@@ -71,7 +71,7 @@ returns-in-default-put-entry c d fs =
     let ready : Some p ≡ get_or ps w None = c.in-Some-take-draft.ensures.value ∙ ap (λ k. get_or ps k None) i.1 in
     let taken = c.take-draft.ensures.after ∙ ap (λ k. set ps k None) i.1 in
     let newest : c.entries-newest.result ≡ t.store.entries = c.entries-newest.ensures ∙ ap (λ (s : Store). s.entries) c.take-draft.ensures.same in
-    let put = put_as t.store c.take-draft.new.self.store es l w c.in-Some.index c.entries-newest.result p _ c.take-draft.ensures.same i.1 c.entries-newest.ensures c.in-default-put-entry.ensures.put in
+    let put = put_as t.store c.take-draft.new.self.store es l w c.in-Some.index c.entries-newest.result p _ c.take-draft.ensures.same i.1 c.entries-newest.ensures c.in_default-put-entry.ensures.put in
     let kept = c.put-entry.ensures.same in
     let t_same = c.take-draft.ensures.same in
     let s = c.put-entry.new.self in

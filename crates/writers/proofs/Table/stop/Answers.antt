@@ -5,8 +5,8 @@ use Rattle.writers.proofs.DeskLaws.{index_some, index_none, memory_with}
 use Rattle.writers.proofs.DeedLaws.{stop_refused, stop_fine}
 use Rattle.writers.proofs.Table.stop.Goals as goal
 
-pub returns-in-default : goal.returns-in-default
-returns-in-default c d fs es l = stop_refused c.args.writer (memory_of c.args.self.now d fs es l) (index_none c.args.writer c.in-default.ensures)
+pub returns-in_default : goal.returns-in_default
+returns-in_default c d fs es l = stop_refused c.args.writer (memory_of c.args.self.now d fs es l) (index_none c.args.writer c.in_default.ensures)
 
 pub returns : goal.returns
 returns c d fs es l =

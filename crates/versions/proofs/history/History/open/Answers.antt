@@ -19,11 +19,11 @@ loop-place-init c =
     ap (λ es. behind (map entry_of es) (gathered (entry_found l) DamagedEntry (counting (end - 0) 0))) c.new-entries.ensures.items
     ∙ gather_start (entry_found l) DamagedEntry (counting (end - 0) 0) ∙ ap (λ n. gathered (entry_found l) DamagedEntry (counting n 0)) all
 
-pub returns-in-default : goal.returns-in-default
-returns-in-default c =
+pub returns-in_default : goal.returns-in_default
+returns-in_default c =
     let l = log_of c.args.store.now c.args.ends.now c.args.log.now in
     let i = c.loop-place.place in
-    let none = found_none c.in-ok-entry.field-0 (entry_under l i) c.in-ok-entry.ensures c.in-default.is in
+    let none = found_none c.in_ok-entry.field-0 (entry_under l i) c.in_ok-entry.ensures c.in_default.is in
     gather_stop (entry_found l) DamagedEntry (map entry_of (vec_items c.loop-place.entries)) _ _ c.loop-place.invariant i _ (counting_more c.min-place-end.result i (omega arith)) none
 
 pub loop-place-preserved : goal.loop-place-preserved
@@ -32,9 +32,9 @@ loop-place-preserved c =
     let i = c.loop-place.place in
     let x = c.in-Some.entry in
     let old = vec_items c.loop-place.entries in
-    let some = found_some c.in-ok-entry.field-0 (entry_under l i) c.in-ok-entry.ensures x c.in-Some.is in
+    let some = found_some c.in_ok-entry.field-0 (entry_under l i) c.in_ok-entry.ensures x c.in-Some.is in
     let rest = gathered (entry_found l) DamagedEntry (counting (c.min-place-end.result - (i + 1)) (i + 1)) in
-    ap (λ es. behind es rest) (ap (map entry_of) c.in-ok-push.ensures.items ∙ map_push entry_of old x)
+    ap (λ es. behind es rest) (ap (map entry_of) c.in_ok-push.ensures.items ∙ map_push entry_of old x)
     ∙ gather_go (entry_found l) DamagedEntry (map entry_of old) _ _ c.loop-place.invariant i _ _ (counting_more c.min-place-end.result i (omega arith)) some
 
 pub returns : goal.returns
