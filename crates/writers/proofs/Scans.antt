@@ -1,6 +1,6 @@
 -- A look through the entries since, step by step.
 use Rattle.std.proofs.Common.{◌≡◌, ℕ, suc, ◌+◌, ◌-◌, ◌<◌, ◌≤◌, Bool, true, false, cond, ◌||◌, eqb, List, [], ◌∷◌, length, get_or, drop, Some, None, Ok, Err, Option, Result, sym, refl, ap, ◌∙◌, arith}
-use Rattle.std.specs.BTreeSet.{contains as in-set}
+use Rattle.std.specs.BTreeSet.{contains as in_set}
 use Rattle.std.specs.BTreeSet.{BTreeSet}
 use Rattle.std.proofs.lemmas.List.{drop_more, drop_all}
 use Rattle.std.proofs.lemmas.Bool.{or_from, or_left, or_right}
@@ -61,12 +61,12 @@ shares_turned (m ∷ ms) ns =
     any_or (λ n. eqb n m) (has ms) ns ∙ ap (λ b. b || any (has ms) ns) (has_turned m ns) ∙ ap (λ b. has ns m || b) (shares_turned ms ns)
 
 -- a conflict, by the set of what is taken and by the span
-module _ (mine theirs : TableChange) (s : BTreeSet ℕ) (set : (n : ℕ) → in-set nat_cmp s n ≡ has mine.takes n) where
-  shares_is : any (λ n. in-set nat_cmp s n) theirs.takes ≡ shares mine.takes theirs.takes
+module _ (mine theirs : TableChange) (s : BTreeSet ℕ) (set : (n : ℕ) → in_set nat_cmp s n ≡ has mine.takes n) where
+  shares_is : any (λ n. in_set nat_cmp s n) theirs.takes ≡ shares mine.takes theirs.takes
   unfolding shares
-  shares_is = any_same (λ n. in-set nat_cmp s n) (has mine.takes) set theirs.takes ∙ shares_turned mine.takes theirs.takes
+  shares_is = any_same (λ n. in_set nat_cmp s n) (has mine.takes) set theirs.takes ∙ shares_turned mine.takes theirs.takes
 
-  pub hit_takes : any (λ n. in-set nat_cmp s n) theirs.takes ≡ true → conflict mine theirs ≡ true
+  pub hit_takes : any (λ n. in_set nat_cmp s n) theirs.takes ≡ true → conflict mine theirs ≡ true
   unfolding conflict
   hit_takes e = or_left (shares mine.takes theirs.takes) (misses mine.action theirs.adds) (sym shares_is ∙ e)
 
@@ -87,7 +87,7 @@ module _ (mine theirs : TableChange) (s : BTreeSet ℕ) (set : (n : ℕ) → in-
   unfolding conflict
   hit_adds k e h = or_right (shares mine.takes theirs.takes) (misses mine.action theirs.adds) (misses_some mine.action k e ∙ h)
 
-  module _ (none : any (λ n. in-set nat_cmp s n) theirs.takes ≡ false) where
+  module _ (none : any (λ n. in_set nat_cmp s n) theirs.takes ≡ false) where
     pub clear_of_takes : span_of mine.action ≡ None → conflict mine theirs ≡ false
     unfolding conflict
     clear_of_takes e = or_from (shares mine.takes theirs.takes) (misses mine.action theirs.adds) (sym shares_is ∙ none) (misses_none mine.action e)

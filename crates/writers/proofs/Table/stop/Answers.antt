@@ -13,5 +13,5 @@ returns c d fs es l =
     let t = c.args.self.now in
     let w = c.args.writer in
     let i = index_some w c.in-Some.index c.in-Some.ensures in
-    let idle = c.take-draft.ensures.after ∙ ap (λ k. set (map held_by (vec_items t.writers)) k None) i.1 in
-    ap (λ (m : Memory). (fine, m)) (memory_with t c.take-draft.new.self d fs es l c.take-draft.ensures.same w None idle) ∙ stop_fine w (memory_of t d fs es l) i.0
+    let idle = c.take_draft.ensures.after ∙ ap (λ k. set (map held_by (vec_items t.writers)) k None) i.1 in
+    ap (λ (m : Memory). (fine, m)) (memory_with t c.take_draft.new.self d fs es l c.take_draft.ensures.same w None idle) ∙ stop_fine w (memory_of t d fs es l) i.0

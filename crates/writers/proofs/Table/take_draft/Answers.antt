@@ -10,7 +10,7 @@ returns-in-Ready c =
     let xs = vec_items c.args.self.now.writers in
     let w = c.args.writer in
     record {
-      value = held_at xs w c.index-mut.result.now (Ready c.in-Ready.draft) (omega (arith, c.args.self.now.sixteen, c.args.self.now.writers.ok.0)) c.index-mut.ensures.value c.in-Ready.ensures.value;
+      value = held_at xs w c.index_mut.result.now (Ready c.in-Ready.draft) (omega (arith, c.args.self.now.sixteen, c.args.self.now.writers.ok.0)) c.index_mut.ensures.value c.in-Ready.ensures.value;
       after = ap (λ x. map held_by (set xs w x)) c.replace-held.ensures.after ∙ map-set held_by xs w Idle;
       same = refl;
     }
@@ -20,7 +20,7 @@ returns-in-Idle c =
     let xs = vec_items c.args.self.now.writers in
     let w = c.args.writer in
     record {
-      value = held_at xs w c.index-mut.result.now Idle (omega (arith, c.args.self.now.sixteen, c.args.self.now.writers.ok.0)) c.index-mut.ensures.value c.in-Idle.ensures.value;
+      value = held_at xs w c.index_mut.result.now Idle (omega (arith, c.args.self.now.sixteen, c.args.self.now.writers.ok.0)) c.index_mut.ensures.value c.in-Idle.ensures.value;
       after = ap (λ x. map held_by (set xs w x)) c.replace-held.ensures.after ∙ map-set held_by xs w Idle;
       same = refl;
     }

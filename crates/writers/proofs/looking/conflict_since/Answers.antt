@@ -1,5 +1,5 @@
 use Rattle.std.proofs.Common.{◌≡◌, ℕ, ◌-◌, true, false, get_or, Some, None, Ok, vec_items, sym, refl, ap, ◌∙◌, arith}
-use Rattle.std.specs.BTreeSet.{contains as in-set}
+use Rattle.std.specs.BTreeSet.{contains as in_set}
 use Rattle.rows.specs.Checks.{any}
 use Rattle.rows.specs.Spans.{overlap}
 use Rattle.codec.specs.declared.entry.Added.{Added}
@@ -24,10 +24,10 @@ returns-in_default c =
 
 pub loop-number-preserved : goal.loop-number-preserved
 loop-number-preserved c =
-    let xs = c.as-slice-number-items.result.now in
+    let xs = c.as_slice-number-items.result.now in
     let i = c.loop-number.number-index in
-    let found = c.contains.ensures.finds (get_or xs i 0) refl c.in_ok-taken.ensures.0 in
-    (c.loop-number.invariant.0, any_on (λ n. in-set nat_cmp c.in_ok-taken.taken n) xs i c.loop-number.invariant.1 0 (omega arith) (sym found ∙ c.if-contains.false))
+    let found = c.contains.ensures in
+    (c.loop-number.invariant.0, any_on (λ n. in_set nat_cmp c.in_ok-taken.taken n) xs i c.loop-number.invariant.1 0 (omega arith) (sym found ∙ c.if-contains.false))
 
 pub search-preserved-in_default-span : goal.search-preserved-in_default-span
 search-preserved-in_default-span c =
@@ -36,14 +36,14 @@ search-preserved-in_default-span c =
     let k = c.search.place in
     let x = entry_of c.in-Some.entry in
     let taken = c.in_ok-taken.taken in
-    let xs = c.as-slice-number-items.result.now in
-    let none = any_end (λ n. in-set nat_cmp taken n) xs c.loop-number.number-index c.loop-number.invariant.1 (omega arith) in
-    let clear = clear_of_takes mine x.change taken (λ n. c.in_ok-taken.ensures.1 n ∙ ap (λ ns. has ns n) c.as-slice.ensures.value) (ap (any (λ n. in-set nat_cmp taken n)) (sym c.as-slice-number-items.ensures.value) ∙ none) (sym c.search.invariant.1 ∙ c.in_default-span.is) in
+    let xs = c.as_slice-number-items.result.now in
+    let none = any_end (λ n. in_set nat_cmp taken n) xs c.loop-number.number-index c.loop-number.invariant.1 (omega arith) in
+    let clear = clear_of_takes mine x.change taken (λ n. c.in_ok-taken.ensures.1 n ∙ ap (λ ns. has ns n) c.as_slice.ensures.value) (ap (any (λ n. in_set nat_cmp taken n)) (sym c.as_slice-number-items.ensures.value) ∙ none) (sym c.search.invariant.1 ∙ c.in_default-span.is) in
     (c.loop-number.invariant.0, c.search.invariant.1, among_on mine l c.entries-place-end.result k _ c.search.invariant.2 (omega arith) x (under_some c.in_ok-entry.field-0 (entry_under l k) c.in_ok-entry.ensures c.in-Some.entry c.in-Some.is) clear)
 
 pub loop-added-preserved : goal.loop-added-preserved
 loop-added-preserved c =
-    let xs = c.as-slice-added-items.result.now in
+    let xs = c.as_slice-added-items.result.now in
     let i = c.loop-added.added-index in
     (c.loop-added.invariant.0, any_on (λ (a : Added). overlap c.in-Some-span.keys a.keys) xs i c.loop-added.invariant.1 _ (omega arith) (sym c.if-overlaps.ensures))
 
@@ -56,9 +56,9 @@ search-preserved c =
     let keys = c.in-Some-span.keys in
     let taken = c.in_ok-taken.taken in
     let span : span_of mine.action ≡ Some keys = sym c.search.invariant.1 ∙ c.in-Some-span.is in
-    let none = any_end (λ n. in-set nat_cmp taken n) c.as-slice-number-items.result.now c.loop-number.number-index c.loop-number.invariant.1 (omega arith) in
-    let apart = any_end (λ (a : Added). overlap keys a.keys) c.as-slice-added-items.result.now c.loop-added.added-index c.loop-added.invariant.1 (omega arith) in
-    let clear = clear_of_all mine x.change taken (λ n. c.in_ok-taken.ensures.1 n ∙ ap (λ ns. has ns n) c.as-slice.ensures.value) (ap (any (λ n. in-set nat_cmp taken n)) (sym c.as-slice-number-items.ensures.value) ∙ none) keys span (ap (any (λ (a : Added). overlap keys a.keys)) (sym c.as-slice-added-items.ensures.value) ∙ apart) in
+    let none = any_end (λ n. in_set nat_cmp taken n) c.as_slice-number-items.result.now c.loop-number.number-index c.loop-number.invariant.1 (omega arith) in
+    let apart = any_end (λ (a : Added). overlap keys a.keys) c.as_slice-added-items.result.now c.loop-added.added-index c.loop-added.invariant.1 (omega arith) in
+    let clear = clear_of_all mine x.change taken (λ n. c.in_ok-taken.ensures.1 n ∙ ap (λ ns. has ns n) c.as_slice.ensures.value) (ap (any (λ n. in_set nat_cmp taken n)) (sym c.as_slice-number-items.ensures.value) ∙ none) keys span (ap (any (λ (a : Added). overlap keys a.keys)) (sym c.as_slice-added-items.ensures.value) ∙ apart) in
     (c.loop-added.invariant.0, sym span, among_on mine l c.entries-place-end.result k _ c.search.invariant.2 (omega arith) x (under_some c.in_ok-entry.field-0 (entry_under l k) c.in_ok-entry.ensures c.in-Some.entry c.in-Some.is) clear)
 
 pub returns : goal.returns
@@ -68,24 +68,24 @@ returns c =
     let k = c.search.place in
     let end = c.entries-place-end.result in
     let taken = c.in_ok-taken.taken in
-    let sets : (n : ℕ) → in-set nat_cmp taken n ≡ has mine.takes n = λ n. c.in_ok-taken.ensures.1 n ∙ ap (λ ns. has ns n) c.as-slice.ensures.value in
+    let sets : (n : ℕ) → in_set nat_cmp taken n ≡ has mine.takes n = λ n. c.in_ok-taken.ensures.1 n ∙ ap (λ ns. has ns n) c.as_slice.ensures.value in
     let told : Ok c.search-test.found ≡ conflict_among mine l (end - c.args.looked) c.args.looked = elim c.search-test.branch [
       | else-search-test w ↦ ap Ok (w.found-is ∙ c.search.invariant.0) ∙ among_end mine l end k _ c.search.invariant.2 (omega arith)
       | then-search-test+in_ok-entry+in-Some+then-loop-number-test+then-contains w ↦
-          let xs = w.as-slice-number-items.result.now in
+          let xs = w.as_slice-number-items.result.now in
           let i = w.loop-number.number-index in
-          let found = w.contains.ensures.finds (get_or xs i 0) refl c.in_ok-taken.ensures.0 in
-          let hit = any_here (λ n. in-set nat_cmp taken n) xs i w.loop-number.invariant.1 0 (omega arith) (sym found ∙ w.if-contains.true) in
+          let found = w.contains.ensures in
+          let hit = any_here (λ n. in_set nat_cmp taken n) xs i w.loop-number.invariant.1 0 (omega arith) (sym found ∙ w.if-contains.true) in
           let x = entry_of w.in-Some.entry in
           ap Ok w.found-is ∙ among_hit mine l end k _ c.search.invariant.2 (omega arith) x (under_some w.in_ok-entry.field-0 (entry_under l k) w.in_ok-entry.ensures w.in-Some.entry w.in-Some.is)
-          (hit_takes mine x.change taken sets (ap (any (λ n. in-set nat_cmp taken n)) (sym w.as-slice-number-items.ensures.value) ∙ hit))
+          (hit_takes mine x.change taken sets (ap (any (λ n. in_set nat_cmp taken n)) (sym w.as_slice-number-items.ensures.value) ∙ hit))
       | then-search-test+in_ok-entry+in-Some+else-loop-number-test+in-Some-span+then-loop-added-test+then-overlaps w ↦
-          let xs = w.as-slice-added-items.result.now in
+          let xs = w.as_slice-added-items.result.now in
           let i = w.loop-added.added-index in
           let keys = w.in-Some-span.keys in
           let hit = any_here (λ (a : Added). overlap keys a.keys) xs i w.loop-added.invariant.1 _ (omega arith) (sym w.if-overlaps.ensures) in
           let x = entry_of w.in-Some.entry in
           ap Ok w.found-is ∙ among_hit mine l end k _ c.search.invariant.2 (omega arith) x (under_some w.in_ok-entry.field-0 (entry_under l k) w.in_ok-entry.ensures w.in-Some.entry w.in-Some.is)
-          (hit_adds mine x.change taken sets keys (sym c.search.invariant.1 ∙ w.in-Some-span.is) (ap (any (λ (a : Added). overlap keys a.keys)) (sym w.as-slice-added-items.ensures.value) ∙ hit))
+          (hit_adds mine x.change taken sets keys (sym c.search.invariant.1 ∙ w.in-Some-span.is) (ap (any (λ (a : Added). overlap keys a.keys)) (sym w.as_slice-added-items.ensures.value) ∙ hit))
     ] in
     told ∙ ap (λ n. conflict_among mine l (n - c.args.looked) c.args.looked) c.entries-place-end.ensures

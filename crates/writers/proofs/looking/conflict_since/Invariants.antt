@@ -1,5 +1,5 @@
 use Rattle.std.proofs.Common.{◌≡◌, ◌-◌, false, drop}
-use Rattle.std.specs.BTreeSet.{contains as in-set}
+use Rattle.std.specs.BTreeSet.{contains as in_set}
 use Rattle.rows.specs.Checks.{any}
 use Rattle.rows.specs.Spans.{overlap}
 use Rattle.codec.specs.Entries.{change_of}
@@ -9,7 +9,7 @@ use Rattle.writers.proofs.looking.conflict_since.Given as goal
 use Rattle.std.specs.Ordering.{nat_cmp}
 
 abbrev pub invariant-loop-number : goal.invariant-loop-number
-invariant-loop-number l = (l.found ≡ false) × (any (λ n. in-set nat_cmp l.taken n) (drop l.number-index l.number-items) ≡ any (λ n. in-set nat_cmp l.taken n) l.number-items)
+invariant-loop-number l = (l.found ≡ false) × (any (λ n. in_set nat_cmp l.taken n) (drop l.number-index l.number-items) ≡ any (λ n. in_set nat_cmp l.taken n) l.number-items)
 
 abbrev pub invariant-loop-added : goal.invariant-loop-added
 invariant-loop-added l = (l.found ≡ false) × (any (λ a. overlap l.keys a.keys) (drop l.added-index l.added-items) ≡ any (λ a. overlap l.keys a.keys) l.added-items)
