@@ -259,12 +259,12 @@ fn an_entry_reads_as_what_it_says(rt: HostRuntime) -> Result<(), Fail> {
     assert_eq!(rt; entry.change.touched, 1);
     assert!(rt;
         entry.change.adds.as_slice()
-            == &[Added {
+            == [Added {
                 number: 5,
                 keys: span(1, 70000),
-            }]
+            }].as_slice()
     );
-    assert!(rt; entry.change.takes.as_slice() == &[3]);
+    assert!(rt; entry.change.takes.as_slice() == [3].as_slice());
     Ok(())
 }
 

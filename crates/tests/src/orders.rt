@@ -118,7 +118,7 @@ fn numbers_are_the_orders_that_they_say(rt: HostRuntime) -> Result<(), Fail> {
     }
     match Order::from_numbers(&[0, 2, 1, 5, 4, 7]) {
         Ok(Order::Insert(lent)) => {
-            assert!(rt; lent == &[1, 5, 4, 7]);
+            assert!(rt; lent == [1, 5, 4, 7].as_slice());
             Ok(())
         },
         _ => Err(Fail::new("no insert")),

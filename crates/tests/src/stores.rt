@@ -88,13 +88,13 @@ fn a_deleted_number_never_comes_back(rt: HostRuntime) -> Result<(), Fail> {
     store.delete(&mut directory, &files, 0);
     assert!(rt; store.file(&directory, &files, 0).is_none());
     assert_eq!(rt; store.room(&directory, &files), 1);
-    assert!(rt; store.files(rt.alloc(), &directory, &files)?.as_slice() == &[1]);
+    assert!(rt; store.files(rt.alloc(), &directory, &files)?.as_slice() == [1].as_slice());
     assert_eq!(rt;
         store.put_rows(&mut directory, &mut files, 7, &[3, 7]),
         added(2, span(3, 3))
     );
-    assert!(rt; &directory[..] == &[3, 48, 2, 48]);
-    assert!(rt; store.files(rt.alloc(), &directory, &files)?.as_slice() == &[2, 1]);
+    assert!(rt; &directory[..] == [3, 48, 2, 48].as_slice());
+    assert!(rt; store.files(rt.alloc(), &directory, &files)?.as_slice() == [2, 1].as_slice());
     Ok(())
 }
 
@@ -109,7 +109,7 @@ fn the_newest_file_deleted_leaves_its_number_behind(rt: HostRuntime) -> Result<(
         store.put_rows(&mut directory, &mut files, 7, &[3, 7]),
         added(2, span(3, 3))
     );
-    assert!(rt; &directory[..] == &[1, 48, 3, 48]);
+    assert!(rt; &directory[..] == [1, 48, 3, 48].as_slice());
     Ok(())
 }
 
@@ -185,7 +185,7 @@ fn a_file_is_written_anew_without_its_erased_rows(rt: HostRuntime) -> Result<(),
         store.put_rewritten(&mut directory, &mut files, 8, &[FIRST], erase),
         added(1, span(70000, 70000))
     );
-    assert!(rt; &directory[..] == &[1, 64, 2, 48]);
+    assert!(rt; &directory[..] == [1, 64, 2, 48].as_slice());
     let rest = bytes_of(rt.alloc(), &[1, 8, 1, 70000, 1000000, 1070010])?;
     assert!(rt; &files[64..112] == rest.as_slice());
     assert!(rt; store.file(&directory, &files, 0).is_some());
@@ -204,7 +204,7 @@ fn a_file_that_would_have_no_rows_is_not_put(rt: HostRuntime) -> Result<(), Fail
         store.put_rewritten(&mut directory, &mut files, 8, &[FIRST], erase),
         Err(Unput::OutOfBounds)
     );
-    assert!(rt; &directory[..] == &[1, 64, 0, 0]);
+    assert!(rt; &directory[..] == [1, 64, 0, 0].as_slice());
     assert!(rt; &files[..] == &before[..]);
     assert_eq!(rt; store.next(), 1);
     Ok(())
@@ -220,7 +220,7 @@ fn more_rows_than_a_slot_has_room_for_change_nothing(rt: HostRuntime) -> Result<
         store.put_rows(&mut directory, &mut files, 7, &[1, 5, 2, 6]),
         Err(Unput::OutOfBounds)
     );
-    assert!(rt; &directory[..] == &[0, 0, 0, 0]);
+    assert!(rt; &directory[..] == [0, 0, 0, 0].as_slice());
     assert!(rt; &files[..] == &before[..]);
     assert_eq!(rt; store.next(), 0);
     Ok(())
@@ -235,7 +235,7 @@ fn a_taken_number_is_not_put_again(rt: HostRuntime) -> Result<(), Fail> {
         store.put_rows(&mut directory, &mut files, 7, &[1, 5]),
         Err(Unput::NumberTaken)
     );
-    assert!(rt; &directory[..] == &[2, 48, 0, 0]);
+    assert!(rt; &directory[..] == [2, 48, 0, 0].as_slice());
     Ok(())
 }
 
@@ -288,7 +288,7 @@ fn entries_are_read_back_at_their_places(rt: HostRuntime) -> Result<(), Fail> {
     let mut log = [0xaa; 176];
     let store = two_entries(&rt, heap, &mut ends, &mut log)?;
     assert_eq!(rt; store.entries(), 2);
-    assert!(rt; &ends[..] == &[88, 176]);
+    assert!(rt; &ends[..] == [88, 176].as_slice());
     assert_eq!(rt; writer_at(heap, store, &ends, &log, 0)?, Some(3));
     assert_eq!(rt; writer_at(heap, store, &ends, &log, 1)?, Some(4));
     assert_eq!(rt; writer_at(heap, store, &ends, &log, 2)?, None);
@@ -336,7 +336,7 @@ fn an_entry_out_of_its_place_or_bounds_is_not_put(rt: HostRuntime) -> Result<(),
     let full = Store::reopen(8, 0, 65536, 1)?;
     let why = Unput::Refused(Refusal::LogFull);
     is_not_put(&rt, full, &mut ends, &mut log, &insert(heap, 65536, 3), why);
-    assert!(rt; &ends[..] == &[9, 9]);
+    assert!(rt; &ends[..] == [9, 9].as_slice());
     assert!(rt; &log[..] == &before[..]);
     Ok(())
 }
@@ -359,7 +359,7 @@ fn a_log_without_room_takes_no_entry(rt: HostRuntime) -> Result<(), Fail> {
     );
     is_not_put(&rt, store, &mut [88, 176], &mut log, &third, no_room(88));
     is_not_put(&rt, store, &mut [88], &mut log, &third, no_room(0));
-    assert!(rt; &ends[..] == &[88, 176, 0]);
+    assert!(rt; &ends[..] == [88, 176, 0].as_slice());
     assert!(rt; &log[..] == &before[..]);
     assert_eq!(rt; store.put_entry(&mut ends, &mut log, &third), Ok(3));
     Ok(())
@@ -376,9 +376,9 @@ fn slices_that_are_too_short_have_no_slots(rt: HostRuntime) -> Result<(), Fail> 
     assert!(rt; store.file(&directory, &[], 0).is_none());
     assert!(rt; store.file(&directory, front(&files, 95), 0).is_some());
     assert!(rt; store.file(&directory, front(&files, 95), 1).is_none());
-    assert!(rt; store.files(heap, &[], &files)?.as_slice() == &[]);
-    assert!(rt; store.files(heap, &directory[..3], &files)?.as_slice() == &[0]);
-    assert!(rt; store.files(heap, &directory, front(&files, 95))?.as_slice() == &[0]);
+    assert!(rt; store.files(heap, &[], &files)?.as_slice() == [].as_slice());
+    assert!(rt; store.files(heap, &directory[..3], &files)?.as_slice() == [0].as_slice());
+    assert!(rt; store.files(heap, &directory, front(&files, 95))?.as_slice() == [0].as_slice());
     assert_eq!(rt; store.room(&[], &files), 0);
     assert_eq!(rt; store.room(&[0], &files), 0);
     assert_eq!(rt; store.room(&[0, 0], &files), 1);
@@ -394,7 +394,7 @@ fn a_damaged_file_is_none(rt: HostRuntime) -> Result<(), Fail> {
     let store = two_files(&rt, &mut directory, &mut files)?;
     directory[1] = 49;
     assert!(rt; store.file(&directory, &files, 0).is_none());
-    assert!(rt; store.files(rt.alloc(), &directory, &files)?.as_slice() == &[0, 1]);
+    assert!(rt; store.files(rt.alloc(), &directory, &files)?.as_slice() == [0, 1].as_slice());
     directory[1] = 40;
     assert!(rt; store.file(&directory, &files, 0).is_none());
     directory[1] = u64::MAX;
@@ -403,7 +403,7 @@ fn a_damaged_file_is_none(rt: HostRuntime) -> Result<(), Fail> {
     directory[1] = 48;
     assert!(rt; store.file(&directory, &files, 0).is_none());
     assert!(rt; store.file(&directory, &files, 4).is_none());
-    assert!(rt; store.files(rt.alloc(), &directory, &files)?.as_slice() == &[4, 1]);
+    assert!(rt; store.files(rt.alloc(), &directory, &files)?.as_slice() == [4, 1].as_slice());
     files[80] = 0;
     assert!(rt; store.file(&directory, &files, 1).is_none());
     assert_eq!(rt; store.room(&directory, &files), 0);
@@ -467,9 +467,9 @@ fn a_refused_opening_leaves_the_directory(rt: HostRuntime) {
         Store::open(&mut directory, 8, 0).err(),
         Some(Refusal::NoRoom(0))
     );
-    assert!(rt; &directory[..] == &[9, 9, 9, 9]);
+    assert!(rt; &directory[..] == [9, 9, 9, 9].as_slice());
     assert!(rt; Store::open(&mut directory, 8, 1).is_ok());
-    assert!(rt; &directory[..] == &[0, 0, 0, 0]);
+    assert!(rt; &directory[..] == [0, 0, 0, 0].as_slice());
 }
 
 #[test]
@@ -531,8 +531,8 @@ fn what_was_written_out_is_read_in(rt: HostRuntime) -> Result<(), Fail> {
         assert!(rt; false);
         return Ok(());
     };
-    assert!(rt; &directory[..] == &[1, 48, 0, 0]);
-    assert!(rt; &ends[..] == &[88, 9]);
+    assert!(rt; &directory[..] == [1, 48, 0, 0].as_slice());
+    assert!(rt; &ends[..] == [88, 9].as_slice());
     assert_eq!(rt; store.next(), 1);
     assert_eq!(rt; store.entries(), 1);
     let out = store.write_out(heap, &directory, &files, &ends, &log)?;
