@@ -1,5 +1,5 @@
 -- Files come back, are one, and have their rows where they lie.
-use Rattle.std.proofs.Common.{◌≡◌, ℕ, zero, suc, ◌+◌, ◌*◌, ◌/◌, ◌^◌, ◌<◌, ◌≤◌, Bool, true, false, cond, ◌&&◌, ltb, ◌⊎◌, List, [], ◌∷◌, ◌++◌, length, get_or, take, drop, Some, None, sym, refl, ap, ◌∙◌, subst, inl, inr, arith}
+use Rattle.std.proofs.Common.{◌≡◌, ℕ, zero, suc, ◌+◌, ◌*◌, ◌^◌, ◌<◌, ◌≤◌, true, cond, ltb, ◌⊎◌, List, [], ◌∷◌, ◌++◌, length, get_or, take, drop, Some, None, sym, refl, ap, ◌∙◌, inl, inr, arith}
 use Rattle.std.specs.List.{slice_get}
 use Rattle.std.proofs.ByRecursion.{All-get_or}
 use Rattle.std.proofs.lemmas.List.{length-drop}
@@ -16,7 +16,7 @@ use Rattle.codec.specs.Bounds.{every}
 use Rattle.codec.specs.FileLaws.{FilesComeBack, FilesAreOne, RowsAreThere}
 use Rattle.codec.specs.Files.{File, file, row_fits, count_fits, file_fits, row_words, pairs, file_words, file_bytes, head_in, with_rows, file_from, file_in, row_in}
 use Rattle.codec.specs.Seals.{sealed_bytes, unsealed}
-use Rattle.codec.specs.Words.{AreBytes, AreWords, words_of}
+use Rattle.codec.specs.Words.{AreWords, words_of}
 use Rattle.codec.proofs.BoundLaws.{every_at, some_of_else}
 use Rattle.codec.proofs.FileReads.{rows_at, length_pairs, row_in_at, row_missing, file_unsealed}
 use Rattle.codec.proofs.SealLaws.{cond_some, length_sealed_bytes, unsealed_sealed, sealed_unsealed, sealing}

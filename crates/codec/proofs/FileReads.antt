@@ -1,7 +1,7 @@
 -- Files as they are read: the head, and the rows one by one.
-use Rattle.std.proofs.Common.{◌≡◌, ℕ, zero, suc, ◌+◌, ◌*◌, ◌/◌, ◌<◌, ◌≤◌, Bool, true, false, cond, leb, List, [], ◌∷◌, length, get_or, take, drop, Some, None, Option, sym, refl, ap, ◌∙◌, arith}
+use Rattle.std.proofs.Common.{◌≡◌, ℕ, zero, suc, ◌+◌, ◌*◌, ◌/◌, ◌<◌, ◌≤◌, Bool, true, false, cond, List, [], ◌∷◌, length, get_or, take, drop, Some, None, sym, refl, ap, ◌∙◌, arith}
 use Rattle.std.specs.Option.{option_map}
-use Rattle.std.proofs.lemmas.List.{length-drop, length-take-le, drop-take, get_or-drop, get_or-take}
+use Rattle.std.proofs.lemmas.List.{length-drop, length-take-le, get_or-drop, get_or-take}
 use Rattle.std.proofs.lemmas.Bool.{le-leb, lt-leb}
 use Rattle.std.proofs.lemmas.Bool.Decides.{nat_tests}
 use Rattle.rows.specs.declared.row.Row.{Row}
@@ -11,7 +11,7 @@ use Rattle.codec.specs.declared.file.Head.{Head}
 use Rattle.codec.specs.Bounds.{every}
 use Rattle.codec.specs.Files.{row_fits, pairs, head_from, head_in, head_of, file, row_of, row_in, with_rows, file_from, file_in}
 use Rattle.codec.specs.Seals.{unsealed}
-use Rattle.codec.specs.Words.{words, words_of}
+use Rattle.codec.specs.Words.{words_of}
 use Rattle.codec.proofs.BoundLaws.{every_more, every_stop, every_end}
 use Rattle.codec.proofs.WordLaws.{length_words}
 

@@ -1,9 +1,8 @@
 -- Files of lent rows, as they are written.
-use Rattle.std.proofs.Common.{◌≡◌, ℕ, suc, ◌+◌, ◌-◌, ◌*◌, ◌/◌, ◌%◌, ◌^◌, ◌<◌, ◌≤◌, Bool, true, false, cond, ◌&&◌, eqb, leb, List, [], ◌∷◌, ◌++◌, length, get_or, take, drop, Some, None, sum, Option, sym, refl, ap, ◌∙◌, subst, arith}
+use Rattle.std.proofs.Common.{◌≡◌, ℕ, ◌+◌, ◌*◌, ◌/◌, ◌%◌, ◌^◌, ◌<◌, ◌≤◌, Bool, true, false, cond, eqb, List, [], ◌∷◌, ◌++◌, length, get_or, take, drop, Some, None, sum, Option, sym, refl, ap, ◌∙◌, arith}
 use Rattle.std.proofs.ByRecursion.{All-append}
 use Rattle.std.proofs.lemmas.List.{take_all}
-use Rattle.std.proofs.lemmas.Bool.{and_parts, and_left, and_right, and_from, eq-eqb, le-leb, leb-true, lt-leb, le-ltb, lt-ltb}
-use Rattle.std.proofs.lemmas.Bool.Decides.{nat_tests}
+use Rattle.std.proofs.lemmas.Bool.{and_parts, and_left, and_right, and_from, eq-eqb, le-leb, leb-true, lt-leb, le-ltb}
 use Rattle.rows.specs.declared.row.Row.{Row}
 use Rattle.rows.specs.declared.span.Span.{Span}
 use Rattle.rows.specs.Numbers.{row}
@@ -14,10 +13,10 @@ use Rattle.codec.specs.Files.{File, file, most_rows, row_fits, count_fits, file_
 use Rattle.codec.specs.Keys.{widened, keys_of}
 use Rattle.codec.specs.Seals.{sealed_bytes}
 use Rattle.codec.specs.Words.{AreWords, put_at, words_of, bytes_of}
-use Rattle.codec.specs.Writes.{told_of, writes, file_written, lent_written, lent_keys}
+use Rattle.codec.specs.Writes.{told_of, writes, lent_written, lent_keys}
 use Rattle.codec.proofs.BoundLaws.{every_more, every_stop, every_end}
 use Rattle.codec.proofs.FileLaws.{length_file_bytes, length_file_words, row_words_pairs, Fits, fits_from}
-use Rattle.codec.proofs.FileReads.{getD_pairs, length_pairs}
+use Rattle.codec.proofs.FileReads.{getD_pairs}
 use Rattle.codec.proofs.KeyLaws.{keys_more}
 use Rattle.codec.proofs.SealLaws.{seal_done}
 use Rattle.codec.proofs.WordLaws.{put_on, put_front}

@@ -1,7 +1,7 @@
 -- Writes to a part of a list, and what they leave of the other parts.
-use Rattle.std.proofs.Common.{◌≡◌, ℕ, zero, suc, ◌+◌, ◌-◌, ◌*◌, ◌<◌, ◌≤◌, ◌⊎◌, List, [], ◌∷◌, ◌++◌, length, take, drop, sym, refl, ap, ◌∙◌, inl, inr, zero-add, arith}
+use Rattle.std.proofs.Common.{◌≡◌, ℕ, zero, suc, ◌+◌, ◌-◌, ◌≤◌, ◌⊎◌, List, [], ◌∷◌, ◌++◌, length, take, drop, sym, refl, ap, ◌∙◌, inl, inr, zero-add, arith}
 use borrow.Rule.Slice.PartMut.{put_mid}
-use Rattle.std.proofs.lemmas.List.{append_assoc, drop_at, drop-drop, drop-take, drop-append-le, length-append, length-drop, length-take, length-take-le, take-append-drop, take_at, take-append-le, take-take}
+use Rattle.std.proofs.lemmas.List.{append_assoc, drop_at, drop-drop, drop-take, drop-append-le, length-append, length-drop, length-take-le, take-append-drop, take_at, take-take}
 use Rattle.codec.specs.Words.{put_at}
 use Rattle.codec.proofs.WordLaws.{put_front, read_below}
 

@@ -1,20 +1,18 @@
 -- Files written anew: when they are not, and what the three writes leave.
-use Rattle.std.proofs.Common.{◌≡◌, ℕ, ◌+◌, ◌-◌, ◌*◌, ◌%◌, ◌^◌, ◌<◌, ◌≤◌, Bool, true, false, cond, not, ◌&&◌, leb, ◌⊎◌, List, [], ◌∷◌, ◌++◌, length, take, drop, Some, None, sum, Option, sym, refl, ap, ◌∙◌, subst, inl, inr, arith}
+use Rattle.std.proofs.Common.{◌≡◌, ℕ, ◌+◌, ◌*◌, ◌%◌, ◌^◌, ◌<◌, ◌≤◌, Bool, true, false, cond, not, ◌&&◌, leb, List, [], ◌∷◌, length, take, drop, Some, None, sum, Option, sym, refl, ap, ◌∙◌, subst, arith}
 use Rattle.std.proofs.ByRecursion.{All-append}
 use Rattle.std.proofs.lemmas.List.{length-drop, length-take-le}
-use Rattle.std.proofs.lemmas.Bool.{and_parts, and_from, and_left, and_right, leb-true, leb-false, le-leb, not-true}
+use Rattle.std.proofs.lemmas.Bool.{and_parts, and_from, and_left, and_right, leb-true, leb-false}
 use Rattle.std.proofs.lemmas.Bool.Decides.{nat_tests}
 use Rattle.rows.specs.declared.row.Row.{Row}
 use Rattle.rows.specs.declared.span.Span.{Span}
 use Rattle.rows.specs.Checks.{some_else}
-use Rattle.codec.specs.declared.rewrite.Fate.{Fate}
-use Rattle.codec.specs.declared.rewrite.Fate.TheVariants.{Stays, Goes, TooLarge}
 use Rattle.codec.specs.declared.rewrite.Part.{Part}
 use Rattle.codec.specs.declared.rewrite.Rewrite.{Rewrite}
 use Rattle.codec.specs.declared.rewrite.Rewrite.TheVariants.{Whole, Outside, Raised}
 use Rattle.codec.specs.declared.write.Written.{Written}
 use Rattle.codec.specs.Bounds.{every}
-use Rattle.codec.specs.Files.{File, file, most_rows, row_fits, file_in, row_words, file_words, file_bytes}
+use Rattle.codec.specs.Files.{File, most_rows, row_fits, file_in, row_words, file_words, file_bytes}
 use Rattle.codec.specs.Keys.{keys_of}
 use Rattle.codec.specs.Rewrites.{fate_of, staying, rewritten, refuses, lies_in, part_in, rows_in, is_source, source_rows, survey_all, new_file, can_rewrite, rewrite_done}
 use Rattle.codec.specs.Seals.{sealed_bytes}

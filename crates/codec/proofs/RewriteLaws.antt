@@ -1,17 +1,16 @@
 -- Rows that are written anew, and the rows of a file as they are read for that.
-use Rattle.std.proofs.Common.{◌≡◌, ℕ, suc, ◌+◌, ◌<◌, ◌≤◌, Bool, true, false, cond, not, ◌&&◌, ◌||◌, List, [], ◌∷◌, ◌++◌, length, get_or, drop, is_some, Some, None, Option, sym, refl, ap, ◌∙◌, arith}
-use Rattle.std.specs.List.{slice_get, flat_map}
+use Rattle.std.proofs.Common.{◌≡◌, ℕ, ◌+◌, ◌<◌, ◌≤◌, Bool, true, false, ◌||◌, List, [], ◌∷◌, ◌++◌, length, get_or, drop, is_some, Some, None, Option, sym, refl, ap, ◌∙◌, arith}
+use Rattle.std.specs.List.{slice_get}
 use Rattle.std.specs.Option.{option_map}
-use Rattle.std.proofs.lemmas.List.{append_assoc, append-nil, at_drop_more, at_drop_all, length-append}
+use Rattle.std.proofs.lemmas.List.{append_assoc, at_drop_more, at_drop_all}
 use Rattle.std.proofs.lemmas.Option.{slice_get-get_or}
 use Rattle.std.proofs.lemmas.Bool.Decides.{nat_tests}
 use Rattle.rows.specs.declared.row.Row.{Row}
 use Rattle.rows.specs.declared.span.Span.{Span}
-use Rattle.rows.specs.Checks.{any, some_else}
+use Rattle.rows.specs.Checks.{some_else}
 use Rattle.rows.specs.Orders.{passes_limit}
-use Rattle.rows.specs.Rows.{outside, raised, raised_row, raise_within}
+use Rattle.rows.specs.Rows.{outside, raised}
 use Rattle.codec.specs.declared.file.Head.{Head}
-use Rattle.codec.specs.declared.rewrite.Fate.{Fate}
 use Rattle.codec.specs.declared.rewrite.Fate.TheVariants.{Stays, Goes, TooLarge}
 use Rattle.codec.specs.declared.rewrite.Rewrite.{Rewrite}
 use Rattle.codec.specs.declared.rewrite.Rewrite.TheVariants.{Whole, Outside, Raised}

@@ -1,29 +1,24 @@
 -- All sources written to the target, one behind the other, and the file that this makes.
-use Rattle.std.proofs.Common.{◌≡◌, ℕ, ◌+◌, ◌-◌, ◌*◌, ◌/◌, ◌%◌, ◌^◌, ◌<◌, ◌≤◌, Bool, true, false, cond, not, ◌&&◌, leb, ◌⊎◌, List, [], ◌∷◌, ◌++◌, length, get_or, take, drop, is_some, Some, None, sum, Option, sym, refl, ap, ◌∙◌, subst, inl, inr, arith}
-use Rattle.std.specs.List.{flat_map}
+use Rattle.std.proofs.Common.{◌≡◌, ℕ, ◌+◌, ◌*◌, ◌^◌, ◌<◌, ◌≤◌, true, ◌&&◌, List, [], ◌∷◌, ◌++◌, length, get_or, take, drop, is_some, sym, refl, ap, ◌∙◌, subst, arith}
 use Rattle.std.proofs.ByRecursion.{All-append}
 use Rattle.std.proofs.lemmas.List.{flat_map_more, length-append, length-drop, length-take-le, take_all, take-append-drop, take_more}
-use Rattle.std.proofs.lemmas.Bool.{and_parts, and_from, and_left, and_right, le-leb, not_from_true}
+use Rattle.std.proofs.lemmas.Bool.{and_parts, and_from}
 use Rattle.rows.specs.declared.row.Row.{Row}
 use Rattle.rows.specs.declared.span.Span.{Span}
 use Rattle.codec.specs.declared.rewrite.Part.{Part}
 use Rattle.codec.specs.declared.rewrite.Rewrite.{Rewrite}
-use Rattle.codec.specs.declared.write.Written.{Written}
 use Rattle.codec.specs.Bounds.{every}
-use Rattle.codec.specs.Files.{File, file, most_rows, row_fits, file_in, row_words, file_words, file_bytes}
-use Rattle.codec.specs.Keys.{widened, keys_of}
-use Rattle.codec.specs.Rewrites.{rewritten, refuses, lies_in, apart, part_in, rows_in, is_source, source_rows, survey_all, new_file, can_rewrite, rewrite_done, widened_by}
-use Rattle.codec.specs.Seals.{sealed_bytes}
-use Rattle.codec.specs.Words.{AreWords, put_at, bytes_of, words_of}
-use Rattle.codec.specs.Writes.{told_of, writes}
+use Rattle.codec.specs.Files.{file_in, row_words}
+use Rattle.codec.specs.Keys.{keys_of}
+use Rattle.codec.specs.Rewrites.{rewritten, lies_in, apart, part_in, rows_in, is_source, source_rows, widened_by}
+use Rattle.codec.specs.Words.{AreWords, put_at, bytes_of}
 use Rattle.codec.proofs.BoundLaws.{every_at}
-use Rattle.codec.proofs.FileLaws.{Fits, length_row_words, row_words_append, length_file_bytes}
+use Rattle.codec.proofs.FileLaws.{length_row_words, row_words_append}
 use Rattle.codec.proofs.KeyLaws.{keys_push}
-use Rattle.codec.proofs.LentFiles.{writes_no_count, writes_no_room, writes_yes, count_none, count_many}
-use Rattle.codec.proofs.PartLaws.{read_apart, part_of_put}
+use Rattle.codec.proofs.PartLaws.{read_apart}
 use Rattle.codec.proofs.RewriteLaws.{rewritten_append}
 use Rattle.codec.proofs.RowWrites.{source}
-use Rattle.codec.proofs.WordLaws.{length_bytes_of, length_put_at, put_none, put_on, front_words}
+use Rattle.codec.proofs.WordLaws.{length_bytes_of, length_put_at, put_none, put_on}
 
 -- a write inside the target leaves the sources
 module _ (B : List ℕ) (t : Part) (at : ℕ) (ys cur : List ℕ) (low : t.start ≤ at) (high : at + length ys ≤ t.start + t.length) (inside : t.start + t.length ≤ length B) (e : cur ≡ put_at at ys B) where

@@ -1,5 +1,5 @@
 -- What a file says, its bounds, and the numbers and bytes that it is.
-use Rattle.std.specs.Prelude.{ℕ, zero, suc, ◌+◌, ◌*◌, Bool, cond, ◌&&◌, List, [], ◌∷◌, length, drop, Some, None, Option, ◌==◌, nat_le, nat_lt, slice_index}
+use Rattle.std.specs.Prelude.{ℕ, ◌+◌, ◌*◌, Bool, cond, ◌&&◌, List, [], ◌∷◌, length, drop, Some, None, Option, ◌==◌, nat_le, nat_lt, slice_index}
 use Rattle.rows.specs.declared.row.Row.{Row}
 use Rattle.rows.specs.Checks.{some_else}
 use Rattle.rows.specs.Numbers.{row}

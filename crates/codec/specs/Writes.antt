@@ -1,6 +1,5 @@
 -- What is written of a file to lent memory, and what is told of it.
 use Rattle.std.specs.Prelude.{ℕ, ◌%◌, Bool, cond, ◌&&◌, List, ◌++◌, length, drop, Some, None, Option, ◌==◌, nat_le}
-use Rattle.rows.specs.declared.row.Row.{Row}
 use Rattle.rows.specs.declared.span.Span.{Span}
 use Rattle.codec.specs.declared.write.Written.{Written}
 use Rattle.codec.specs.Bounds.{every}

@@ -11,7 +11,7 @@ use Rattle.store.specs.declared.header.Header.{Header}
 use Rattle.store.specs.Export.{Appends, slots_of, file_of_slot, files_below, files_held, entry_held, entries_below, entries_held, counted, numbered, header_words, header_of, exported}
 use Rattle.store.specs.Log.{Log}
 use Rattle.store.specs.Putting.{Files}
-use Rattle.store.specs.Slots.{free_below, mark_at}
+use Rattle.store.specs.Slots.{free_below}
 
 -- bytes behind bytes that were appended
 pub appends_then : {A : Type 0} (r : Result A Refusal) (a m after bs cs : List ℕ) → m ≡ a ++ bs → Appends r m after cs → Appends r a after (bs ++ cs)

@@ -1,5 +1,5 @@
 -- Files put into the first free slot, under the next number.
-use Rattle.std.specs.Prelude.{◌≡◌, ℕ, ◌+◌, ◌*◌, ◌%◌, ◌^◌, Bool, cond, ◌&&◌, List, length, Some, None, Ok, Err, Option, Result, ◌==◌, nat_lt, slice_set}
+use Rattle.std.specs.Prelude.{◌≡◌, ℕ, ◌+◌, ◌*◌, ◌%◌, ◌^◌, cond, ◌&&◌, List, length, Some, None, Ok, Err, Option, Result, ◌==◌, nat_lt, slice_set}
 use Rattle.rows.specs.declared.refusal.Refusal.TheVariants.{NoRoom}
 use Rattle.rows.specs.Checks.{some_else}
 use Rattle.codec.specs.declared.entry.Added.{Added}

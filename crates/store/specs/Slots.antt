@@ -1,9 +1,9 @@
 -- The files of a store that lie in memory: slots of one size, and a directory with two numbers for each of them, the file's number plus one (0: free) and its length.
-use Rattle.std.specs.Prelude.{ℕ, zero, suc, ◌+◌, ◌-◌, ◌*◌, ◌/◌, ◌^◌, min, Bool, cond, ◌&&◌, List, [], ◌∷◌, ◌++◌, length, take, drop, Some, None, Ok, Err, vec_items, Option, Result, Vec, ◌==◌, nat_eq, nat_le, slice_index, slice_set}
+use Rattle.std.specs.Prelude.{ℕ, zero, suc, ◌+◌, ◌-◌, ◌*◌, ◌/◌, ◌^◌, min, Bool, cond, List, [], ◌∷◌, ◌++◌, length, take, drop, Some, None, Ok, Err, vec_items, Option, Result, Vec, ◌==◌, nat_eq, nat_le, slice_index, slice_set}
 use Rattle.std.specs.declared.alloc.Global.{Global}
 use Rattle.rows.specs.declared.refusal.Refusal.{Refusal}
 use Rattle.rows.specs.Checks.{some_else}
-use Rattle.codec.specs.Files.{File, file_in, head_of}
+use Rattle.codec.specs.Files.{file_in, head_of}
 use Rattle.store.specs.declared.files.Stored.{Stored}
 
 -- how many bytes a slot has, which takes a file of so many rows

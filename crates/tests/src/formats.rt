@@ -262,7 +262,8 @@ fn an_entry_reads_as_what_it_says(rt: HostRuntime) -> Result<(), Fail> {
             == [Added {
                 number: 5,
                 keys: span(1, 70000),
-            }].as_slice()
+            }]
+            .as_slice()
     );
     assert!(rt; entry.change.takes.as_slice() == [3].as_slice());
     Ok(())

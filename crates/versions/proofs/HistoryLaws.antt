@@ -1,12 +1,12 @@
 -- The entries of a history, step by step.
-use Rattle.std.proofs.Common.{◌≡◌, ℕ, ◌+◌, ◌<◌, ◌≤◌, Bool, true, false, cond, eqb, List, [], ◌∷◌, ◌++◌, map, length, get_or, take, drop, Some, None, Ok, Option, Result, sym, refl, ap, ◌∙◌, arith}
+use Rattle.std.proofs.Common.{◌≡◌, ℕ, ◌+◌, ◌<◌, ◌≤◌, Bool, true, false, cond, eqb, List, [], ◌∷◌, map, length, get_or, take, drop, Some, None, Ok, Option, Result, sym, ap, ◌∙◌, arith}
 use Rattle.std.specs.Option.{option_map}
 use Rattle.rows.specs.declared.refusal.Refusal.{Refusal}
 use Rattle.std.proofs.lemmas.List.{get_or-map, length-map, drop_more, drop_all}
 use Rattle.std.proofs.lemmas.List.Sums.{count_by_more_yes, count_by_more_no}
 use Rattle.std.proofs.lemmas.Bool.{eq-eqb, ne_eqb}
 use Rattle.codec.specs.declared.entry.Entry.{Entry}
-use Rattle.codec.specs.Entries.{TableChange, LogEntry, entry_of, change_of}
+use Rattle.codec.specs.Entries.{TableChange, LogEntry, entry_of}
 use Rattle.versions.specs.Alive.{after, alive}
 use Rattle.versions.specs.Histories.{changes, puts_by, first_place}
 use Rattle.versions.specs.VersionLaws.{Stands}

@@ -1,5 +1,5 @@
 -- Where a file of a store lies, and its rows one by one.
-use Rattle.std.proofs.Common.{◌≡◌, ℕ, ◌+◌, ◌-◌, ◌*◌, ◌<◌, ◌≤◌, Bool, true, false, cond, eqb, leb, ◌⊎◌, List, [], ◌∷◌, ◌++◌, length, get_or, take, drop, is_some, Some, None, Option, sym, refl, ap, ◌∙◌, subst, inl, inr, arith}
+use Rattle.std.proofs.Common.{◌≡◌, ℕ, ◌+◌, ◌-◌, ◌*◌, ◌<◌, ◌≤◌, Bool, true, false, cond, eqb, ◌⊎◌, List, [], ◌∷◌, ◌++◌, length, get_or, take, drop, Some, None, Option, sym, refl, ap, ◌∙◌, subst, inl, inr, arith}
 use Rattle.std.specs.Option.{option_map}
 use Rattle.std.proofs.lemmas.List.{take_more}
 use Rattle.std.proofs.lemmas.Bool.{cases_lt, le-leb}
@@ -15,7 +15,7 @@ use Rattle.store.specs.Putting.{Files}
 use Rattle.store.specs.Slots.{slot_size, slots, length_at, slot_with, slot_bytes, stored_at, stored}
 use Rattle.store.specs.StoreLaws.{file_under}
 use Rattle.store.proofs.SlotLaws.{slot_within, slot_inside, stored_too_long}
-use Rattle.versions.specs.FilesHeld.{HasRows, stored_rows}
+use Rattle.versions.specs.FilesHeld.{HasRows}
 
 -- a file that is found lies within the file bytes, and its head is that of the file that it is
 pub record Lies (s : Files) (x : Stored) : Type 0 where

@@ -1,5 +1,5 @@
 -- What a writer finds to do: the files that it writes, and those that it takes.
-use Rattle.std.specs.Prelude.{ℕ, ◌+◌, Bool, true, false, cond, List, [], ◌∷◌, ◌++◌, map, length, filter, nat_le, nat_lt}
+use Rattle.std.specs.Prelude.{ℕ, ◌+◌, Bool, cond, List, [], ◌∷◌, ◌++◌, map, length, filter, nat_le, nat_lt}
 use Rattle.rows.specs.declared.row.Row.{Row}
 use Rattle.rows.specs.declared.span.Span.{Span}
 use Rattle.rows.specs.Orders.{Order, insert, erase, raise, pack, touched}

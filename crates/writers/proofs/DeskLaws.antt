@@ -1,5 +1,5 @@
 -- The writers of a table, one by one.
-use Rattle.std.proofs.Common.{◌≡◌, ℕ, ◌<◌, ◌≤◌, Bool, true, false, cond, ltb, List, map, length, get_or, set, Some, None, Err, vec_items, Option, Result, sym, refl, ap, ◌∙◌, arith}
+use Rattle.std.proofs.Common.{◌≡◌, ℕ, ◌<◌, Bool, true, false, cond, ltb, List, map, length, get_or, set, Some, None, Err, vec_items, Option, Result, sym, refl, ap, ◌∙◌, arith}
 use Rattle.std.proofs.lemmas.List.{get_or-map, set-set, set-get_or}
 use Rattle.codec.specs.Entries.{LogEntry}
 use Rattle.store.specs.declared.Store.{Store}

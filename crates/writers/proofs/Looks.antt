@@ -6,7 +6,7 @@ use Rattle.std.proofs.lemmas.Bool.{eq-eqb, cases_Bool, not-true, not_from_true, 
 use Rattle.std.proofs.lemmas.Bool.Decides.{nat_tests, Decides-like, Decides-or, Decides-by_or}
 use Rattle.rows.specs.Checks.{any}
 use Rattle.rows.specs.declared.row.Row.{Row}
-use Rattle.rows.specs.Orders.{Order, insert, touched}
+use Rattle.rows.specs.Orders.{Order, insert}
 use Rattle.codec.specs.declared.action.Action.TheVariants.{Insert}
 use Rattle.codec.specs.Entries.{TableChange}
 use Rattle.versions.specs.Conflicts.{shares, misses, conflict, any_conflict}

@@ -1,5 +1,5 @@
 -- A look through the entries since, step by step.
-use Rattle.std.proofs.Common.{◌≡◌, ℕ, suc, ◌+◌, ◌-◌, ◌<◌, ◌≤◌, Bool, true, false, cond, ◌||◌, eqb, List, [], ◌∷◌, length, get_or, drop, Some, None, Ok, Err, Option, Result, sym, refl, ap, ◌∙◌, arith}
+use Rattle.std.proofs.Common.{◌≡◌, ℕ, suc, ◌+◌, ◌-◌, ◌<◌, ◌≤◌, Bool, true, false, cond, ◌||◌, eqb, List, [], ◌∷◌, length, get_or, drop, Some, None, Ok, Err, Result, sym, refl, ap, ◌∙◌, arith}
 use Rattle.std.specs.BTreeSet.{contains as in_set}
 use Rattle.std.specs.BTreeSet.{BTreeSet}
 use Rattle.std.proofs.lemmas.List.{drop_more, drop_all}
@@ -12,7 +12,6 @@ use Rattle.rows.specs.declared.refusal.Refusal.TheVariants.{DamagedEntry}
 use Rattle.rows.specs.declared.span.Span.{Span}
 use Rattle.codec.specs.declared.action.Action.{Action}
 use Rattle.codec.specs.declared.action.Action.TheVariants.{Insert, Erase, Raise, Pack}
-use Rattle.codec.specs.declared.entry.Added.{Added}
 use Rattle.codec.specs.Entries.{TableChange, LogEntry}
 use Rattle.store.specs.Log.{Log}
 use Rattle.store.specs.StoreLaws.{entry_under}

@@ -1,5 +1,5 @@
 -- What answers tell.
-use Rattle.std.specs.Prelude.{◌≡◌, ℕ, Bool, false, vec_items, MatchBool, ◌==◌}
+use Rattle.std.specs.Prelude.{◌≡◌, Bool, false, vec_items, MatchBool, ◌==◌}
 use Rattle.rows.specs.Refusals.{number_of}
 use Rattle.writers.specs.declared.answer.Answer.{Answer}
 use Rattle.writers.specs.declared.answer.Answer.TheVariants.{Fine, Again, NotYet, Counted, Rows, Refused}

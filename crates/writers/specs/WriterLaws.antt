@@ -1,5 +1,5 @@
 -- What is promised of writers together, over every list of deeds from an empty table.
-use Rattle.std.specs.Prelude.{◌≡◌, ℕ, ◌+◌, ◌<◌, ◌≤◌, Bool, true, false, cond, ◌&&◌, ◌⊎◌, List, [], ◌∷◌, ◌++◌, map, length, take, count_by, ◌==◌, nat_lt}
+use Rattle.std.specs.Prelude.{◌≡◌, ℕ, ◌+◌, ◌≤◌, Bool, true, false, cond, ◌&&◌, ◌⊎◌, List, [], ◌∷◌, ◌++◌, map, take, count_by, ◌==◌, nat_lt}
 use Rattle.rows.specs.declared.row.Row.{Row}
 use Rattle.rows.specs.Orders.{Order, insert, pack, done_to, touched}
 use Rattle.rows.specs.Rows.{Alike}
@@ -8,7 +8,7 @@ use Rattle.versions.specs.Conflicts.{conflict}
 use Rattle.versions.specs.Contents.{all_there}
 use Rattle.versions.specs.Kept.{kept}
 use Rattle.versions.specs.VersionLaws.{Stands}
-use Rattle.writers.specs.Model.{Entry, Writer, ready, Table, empty, changes_of, orders_of, newest, files_at, seen, Deed, begin, look, put, stop, read, Told, fine, again, not_yet, counted, shows, refused, step, told, end}
+use Rattle.writers.specs.Model.{Entry, ready, Table, empty, changes_of, orders_of, newest, files_at, seen, Deed, begin, look, put, stop, read, Told, fine, again, not_yet, counted, shows, refused, step, told, end}
 
 -- orders done one after the other
 unfoldable pub in_turn : List Order → List Row → List Row

@@ -1,6 +1,6 @@
 use Rattle.std.proofs.Common.{sym, arith}
 use Rattle.std.proofs.lemmas.Bool.{and_left, and_right}
-use Rattle.codec.specs.Rewrites.{lies_in, apart, part_in, rows_in, is_source}
+use Rattle.codec.specs.Rewrites.{part_in, rows_in, is_source}
 use Rattle.codec.proofs.SourceLaws.{survey_absent, part_surveyed}
 use Rattle.codec.proofs.rewrite.count_in_part.Goals as goal
 

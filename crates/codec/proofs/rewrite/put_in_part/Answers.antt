@@ -1,4 +1,4 @@
-use Rattle.std.proofs.Common.{◌+◌, ◌-◌, ◌*◌, ap, ◌∙◌, arith}
+use Rattle.std.proofs.Common.{◌+◌, ◌-◌, ◌*◌, arith}
 use Rattle.codec.specs.Words.{bytes_of}
 use Rattle.codec.proofs.PartLaws.{part_put}
 use Rattle.codec.proofs.WordLaws.{length_bytes_of}

@@ -1,4 +1,4 @@
-use Rattle.std.proofs.Common.{◌≡◌, ◌+◌, ◌-◌, ◌*◌, ◌%◌, ◌^◌, List, [], ◌∷◌, take, drop, sum, ap, ◌∙◌, arith}
+use Rattle.std.proofs.Common.{◌≡◌, ◌+◌, ◌-◌, ◌*◌, ◌%◌, ◌^◌, [], ◌∷◌, take, drop, sum, ap, ◌∙◌, arith}
 use Rattle.codec.specs.Words.{put_at, bytes_of, words_of}
 use Rattle.codec.proofs.PartLaws.{part_put}
 use Rattle.codec.proofs.WordLaws.{length_bytes_of}

@@ -1,4 +1,4 @@
-use Rattle.std.proofs.Common.{refl, ◌∙◌, arith}
+use Rattle.std.proofs.Common.{arith}
 use Rattle.codec.proofs.LentFiles.{lent_more, lent_stop, lent_end}
 use Rattle.codec.proofs.write.lent_keys.Goals as goal
 

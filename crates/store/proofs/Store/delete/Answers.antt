@@ -1,4 +1,4 @@
-use Rattle.std.proofs.Common.{◌+◌, ◌∙◌}
+use Rattle.std.proofs.Common.{◌+◌}
 use Rattle.store.proofs.SlotLaws.{freed_here, freed_not}
 use Rattle.store.proofs.Store.delete.Goals as goal
 use Rattle.store.proofs.Store.delete.Goals.{then-directory-i, else-directory-i}

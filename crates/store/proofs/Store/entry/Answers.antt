@@ -1,4 +1,4 @@
-use Rattle.std.proofs.Common.{◌≡◌, ◌-◌, take, drop, Ok, ap, ◌∙◌, arith}
+use Rattle.std.proofs.Common.{◌-◌, take, drop, Ok, ap, ◌∙◌, arith}
 use Rattle.codec.specs.Entries.{entry_of}
 use Rattle.store.proofs.LogLaws.{entry_beyond, entry_unbounded, entry_bounded, placed_none, placed_other, placed_here, read_none, read_some}
 use Rattle.store.proofs.Store.entry.Goals as goal

@@ -1,5 +1,4 @@
-use Rattle.std.proofs.Common.{◌≡◌, ap, ◌∙◌, arith}
-use Rattle.store.specs.Export.{files_below}
+use Rattle.std.proofs.Common.{arith}
 use Rattle.store.specs.Putting.{files_of}
 use Rattle.store.proofs.ExportLaws.{held_or_free, held_count}
 use Rattle.store.proofs.Store.header.Goals as goal

@@ -1,4 +1,4 @@
-use Rattle.std.proofs.Common.{◌≡◌, ◌*◌, length, ap, arith, rules}
+use Rattle.std.proofs.Common.{◌*◌, length, ap, arith}
 use Rattle.store.specs.Slots.{slot_size, length_at}
 use Rattle.store.proofs.ExportLaws.{length_within}
 use Rattle.store.proofs.SlotLaws.{slot_inside}

@@ -1,4 +1,4 @@
-use Rattle.std.proofs.Common.{◌≡◌, Ok, vec_items, ap}
+use Rattle.std.proofs.Common.{Ok, vec_items, ap}
 use Rattle.store.specs.Log.{log_of}
 use Rattle.store.specs.Putting.{files_of}
 use Rattle.store.proofs.ExportLaws.{written_out}

@@ -1,4 +1,4 @@
-use Rattle.std.proofs.Common.{[], ◌∷◌, vec_items, rules}
+use Rattle.std.proofs.Common.{[], ◌∷◌, vec_items}
 use Rattle.codec.specs.Words.{bytes_of}
 use Rattle.store.specs.Export.{counted}
 use Rattle.store.proofs.ExportLaws.{appends_then}

@@ -1,4 +1,4 @@
-use Rattle.std.proofs.Common.{◌≡◌, ◌++◌, vec_items, sym, ap, ◌∙◌, rules}
+use Rattle.std.proofs.Common.{◌++◌, vec_items, sym, ap, ◌∙◌}
 use Rattle.codec.proofs.WordLaws.{bytes_eight, bytes_of_one}
 use Rattle.store.proofs.export.push_word.Goals as goal
 

@@ -1,4 +1,4 @@
-use Rattle.std.proofs.Common.{◌≡◌, not, vec_items, sym, refl, ap, ◌∙◌, arith}
+use Rattle.std.proofs.Common.{not, sym, ap, ◌∙◌, arith}
 use Rattle.std.proofs.lemmas.List.Filters.{FiltersInPlace-all, FiltersInPlace-more_set, FiltersInPlace-more_no}
 use Rattle.versions.proofs.live.keep_others.Goals as goal
 use Rattle.versions.proofs.live.keep_others.Goals.{then-not-contains, else-not-contains}

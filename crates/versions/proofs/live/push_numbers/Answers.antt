@@ -1,4 +1,4 @@
-use Rattle.std.proofs.Common.{◌≡◌, ◌++◌, get_or, take, vec_items, sym, ap, ◌∙◌, arith}
+use Rattle.std.proofs.Common.{◌++◌, take, vec_items, sym, ap, ◌∙◌, arith}
 use Rattle.std.proofs.lemmas.List.{take_all}
 use Rattle.versions.specs.Alive.{numbers}
 use Rattle.versions.proofs.LiveLaws.{push_behind, numbers_more}

@@ -1,7 +1,5 @@
-use Rattle.std.proofs.Common.{◌≡◌, vec_items, sym, ap, ◌∙◌}
+use Rattle.std.proofs.Common.{◌≡◌, vec_items, ap, ◌∙◌}
 use Rattle.std.proofs.lemmas.Result.{err_from_is_err_and}
-use Rattle.codec.specs.Entries.{LogEntry}
-use Rattle.rows.specs.declared.row.Row.{Row}
 use Rattle.rows.proofs.Unless.{unless_hands_on, unless_map}
 use Rattle.store.specs.Log.{log_of}
 use Rattle.store.specs.Putting.{files_of}

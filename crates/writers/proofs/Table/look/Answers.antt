@@ -6,7 +6,7 @@ use Rattle.versions.specs.Kept.{kept}
 use Rattle.writers.specs.Answers.{Does}
 use Rattle.writers.specs.Deeds.{conflict_among, look_done}
 use Rattle.writers.specs.Memory.{Pending, pending_of, held_by, Memory, memory_of}
-use Rattle.writers.specs.Model.{Told, fine, again, refused}
+use Rattle.writers.specs.Model.{fine, again, refused}
 use Rattle.writers.proofs.DeskLaws.{index_some, index_none, memory_with, memory_same, given_back, given_other, idle_still}
 use Rattle.writers.proofs.DeedLaws.{refused_does, look_nobody, look_idle, look_late, look_tried}
 use Rattle.writers.proofs.Table.look.Goals as goal

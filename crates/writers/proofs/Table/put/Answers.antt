@@ -1,12 +1,11 @@
-use Rattle.std.proofs.Common.{◌≡◌, ℕ, ◌<◌, ◌≤◌, List, map, get_or, set, Some, None, Ok, Err, vec_items, Option, sym, refl, ap, ◌∙◌, arith}
-use Rattle.rows.specs.declared.refusal.Refusal.{Refusal}
+use Rattle.std.proofs.Common.{◌≡◌, map, get_or, set, Some, None, vec_items, sym, ap, ◌∙◌, arith}
 use Rattle.rows.specs.declared.refusal.Refusal.TheVariants.{IdleWriter, LogFull}
 use Rattle.store.specs.declared.Store.{Store}
 use Rattle.store.specs.Log.{log_of}
 use Rattle.store.specs.Putting.{files_of}
 use Rattle.writers.specs.Deeds.{entry_for}
-use Rattle.writers.specs.Memory.{Pending, pending_of, held_by, Memory, memory_of}
-use Rattle.writers.specs.Model.{Told, not_yet, counted, refused}
+use Rattle.writers.specs.Memory.{pending_of, held_by, Memory, memory_of}
+use Rattle.writers.specs.Model.{not_yet, counted, refused}
 use Rattle.writers.proofs.DeskLaws.{index_some, index_none, memory_same, memory_by, given_back, idle_still, files_same, put_as, unput_log}
 use Rattle.writers.proofs.DeedLaws.{put_nobody, put_idle, put_full, put_not_yet, put_tried}
 use Rattle.writers.proofs.Table.put.Goals as goal

@@ -1,6 +1,3 @@
-use Rattle.std.proofs.Common.{◌≡◌, ap}
-use Rattle.store.specs.Log.{log_of}
-use Rattle.store.specs.Putting.{files_of}
 use Rattle.writers.specs.Memory.{memory_of}
 use Rattle.writers.proofs.DeedLaws.{read_shown, read_refused}
 use Rattle.writers.proofs.Table.read.Goals as goal

@@ -1,6 +1,6 @@
-use Rattle.std.proofs.Common.{◌≡◌, map, set, None, vec_items, ap, ◌∙◌}
-use Rattle.writers.specs.Memory.{Memory, held_by, memory_of, with_pending}
-use Rattle.writers.specs.Model.{Told, fine}
+use Rattle.std.proofs.Common.{map, set, None, vec_items, ap, ◌∙◌}
+use Rattle.writers.specs.Memory.{Memory, held_by, memory_of}
+use Rattle.writers.specs.Model.{fine}
 use Rattle.writers.proofs.DeskLaws.{index_some, index_none, memory_with}
 use Rattle.writers.proofs.DeedLaws.{stop_refused, stop_fine}
 use Rattle.writers.proofs.Table.stop.Goals as goal

@@ -1,4 +1,4 @@
-use Rattle.std.proofs.Common.{◌≡◌, map, set, vec_items, refl, ap, ◌∙◌, arith}
+use Rattle.std.proofs.Common.{map, set, vec_items, refl, ap, ◌∙◌, arith}
 use Rattle.std.proofs.lemmas.List.{map-set}
 use Rattle.writers.specs.Memory.{held_by}
 use Rattle.writers.specs.declared.writer.Writer.TheVariants.{Idle, Ready}

@@ -1,4 +1,4 @@
-use Rattle.std.proofs.Common.{◌≡◌, ℕ, ◌-◌, true, false, get_or, Some, None, Ok, vec_items, sym, refl, ap, ◌∙◌, arith}
+use Rattle.std.proofs.Common.{◌≡◌, ℕ, ◌-◌, Some, Ok, sym, ap, ◌∙◌, arith}
 use Rattle.std.specs.BTreeSet.{contains as in_set}
 use Rattle.rows.specs.Checks.{any}
 use Rattle.rows.specs.Spans.{overlap}

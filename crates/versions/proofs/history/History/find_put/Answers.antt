@@ -1,8 +1,8 @@
-use Rattle.std.proofs.Common.{◌≡◌, eqb, vec_items, ap, ◌∙◌, arith}
+use Rattle.std.proofs.Common.{eqb, vec_items, arith}
 use Rattle.std.proofs.lemmas.List.{length-map}
 use Rattle.std.proofs.lemmas.Bool.{eq-eqb, ne_eqb, and_from, and_left, and_right}
 use Rattle.codec.specs.Entries.{entry_of}
-use Rattle.versions.specs.Histories.{entries_of, is_put, first_place}
+use Rattle.versions.specs.Histories.{entries_of, is_put}
 use Rattle.versions.proofs.HistoryLaws.{entry_stands, first_here, first_on, first_none}
 use Rattle.versions.proofs.history.History.find_put.Goals as goal
 use Rattle.versions.proofs.history.History.find_put.Goals.{else-entry-writer-via-then-entry-writer+else-entry-serial, else-entry-writer-via-else-entry-writer}

@@ -1,4 +1,4 @@
-use Rattle.std.proofs.Common.{◌≡◌, Ok, vec_items, ap, arith}
+use Rattle.std.proofs.Common.{Ok, vec_items, ap, arith}
 use Rattle.std.proofs.lemmas.List.{length-map}
 use Rattle.codec.specs.Entries.{LogEntry, entry_of, change_of}
 use Rattle.versions.specs.Histories.{entries_of, changes, live_of}

@@ -1,5 +1,4 @@
-use Rattle.std.proofs.Common.{◌≡◌, [], map, drop, vec_items}
-use Rattle.codec.specs.Entries.{entry_of}
+use Rattle.std.proofs.Common.{◌≡◌, [], drop, vec_items}
 use Rattle.versions.specs.Alive.{alive}
 use Rattle.versions.specs.Histories.{changes, entries_of}
 use Rattle.versions.proofs.history.History.live.Given as goal

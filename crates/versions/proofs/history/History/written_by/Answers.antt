@@ -1,4 +1,4 @@
-use Rattle.std.proofs.Common.{◌≡◌, take, vec_items, refl, ap, ◌∙◌, arith}
+use Rattle.std.proofs.Common.{vec_items, refl, ap, ◌∙◌, arith}
 use Rattle.std.proofs.lemmas.List.{take_all, length-map}
 use Rattle.codec.specs.Entries.{entry_of}
 use Rattle.versions.specs.Histories.{entries_of, puts_by}
