@@ -1,12 +1,12 @@
 -- Bytes and the numbers that they write, eight bytes to each, the least byte first.
 use Rattle.std.specs.Prelude.{ℕ, zero, suc, ◌+◌, ◌*◌, ◌/◌, ◌%◌, ◌^◌, ◌<◌, List, [], ◌∷◌, ◌++◌, length, take, drop}
-use Rattle.std.specs.List.{AllByRecursion as All}
+use Rattle.std.specs.List.{AllByRecursion}
 
 abbrev pub AreBytes : List ℕ → Type 0
-AreBytes xs = All (λ b. b < 256) xs
+AreBytes xs = AllByRecursion (λ b. b < 256) xs
 
 abbrev pub AreWords : List ℕ → Type 0
-AreWords ws = All (λ w. w < 2 ^ 64) ws
+AreWords ws = AllByRecursion (λ w. w < 2 ^ 64) ws
 
 -- the number that bytes write
 abbrev pub le : List ℕ → ℕ

@@ -1,6 +1,6 @@
 -- The entries that a log holds, and what it holds once entries were laid into it one behind the other.
 use Rattle.std.proofs.Common.{◌≡◌, ℕ, zero, suc, ◌+◌, ◌-◌, ◌^◌, ◌<◌, ◌≤◌, List, [], ◌∷◌, ◌++◌, length, take, drop, set, Some, None, sum_by, Option, sym, refl, ap, ◌∙◌, subst, arith}
-use Rattle.std.specs.List.{AllByRecursion as All}
+use Rattle.std.specs.List.{AllByRecursion}
 use Rattle.std.proofs.ByRecursion.{All-append}
 use Rattle.std.proofs.lemmas.List.{append_assoc, append-nil, length-append, length-drop, length-set, length-take}
 use Rattle.std.proofs.lemmas.List.Sums.{sum_by-cons}
@@ -74,6 +74,6 @@ entry_short l k = by (bounds_of l.ends (length l.bytes) k)
     by None = omega arith
     by (Some (a, b)) = omega (arith, length-take (b - a) (drop a l.bytes), length-drop a l.bytes)
 
-pub entries_fit : (l : Log) (n : ℕ) → length l.bytes < 2 ^ 64 → All (λ c. length c < 2 ^ 64) (entries_below l n)
+pub entries_fit : (l : Log) (n : ℕ) → length l.bytes < 2 ^ 64 → AllByRecursion (λ c. length c < 2 ^ 64) (entries_below l n)
 entries_fit l zero h = tt
 entries_fit l (suc n) h = All-append (λ c. length c < 2 ^ 64) (entries_below l n) (entry_held l n ∷ []) (entries_fit l n h) (omega (arith, entry_short l n), tt)

@@ -1,6 +1,6 @@
 -- The files that memory holds, and what it holds once files were laid into its slots.
 use Rattle.std.proofs.Common.{◌≡◌, ℕ, zero, suc, ◌+◌, ◌-◌, ◌*◌, ◌^◌, ◌<◌, ◌≤◌, Bool, true, false, cond, eqb, leb, ◌⊎◌, List, [], ◌∷◌, ◌++◌, length, take, drop, set, replicate, sym, refl, ap, ◌∙◌, inl, inr, arith}
-use Rattle.std.specs.List.{AllByRecursion as All}
+use Rattle.std.specs.List.{AllByRecursion}
 use Rattle.std.proofs.ByRecursion.{All-append, All-get_or}
 use Rattle.std.proofs.lemmas.List.{append_assoc, append-nil, get_or_past, get_or-replicate, length-replicate, length-take}
 use Rattle.std.proofs.lemmas.Bool.{cases_lt, eq-eqb, ne_eqb, eqb-false, leb-true}
@@ -69,7 +69,7 @@ listed_above (f ∷ xs) i d j h =
     listed_above xs (i + 1) (set (set d (2 * i) (f.0 + 1)) (1 + 2 * i) (length f.1)) j (omega arith) ∙ (marked_other d i (f.0 + 1) (length f.1) j (omega arith)).0
 
 -- files laid into the slots from one on are the files of those slots
-files_laid : (most next : ℕ) (xs : List (ℕ × List ℕ)) (i : ℕ) (d fs : List ℕ) → i + length xs ≤ slots most (length d) (length fs) → All (Fits most) xs
+files_laid : (most next : ℕ) (xs : List (ℕ × List ℕ)) (i : ℕ) (d fs : List ℕ) → i + length xs ≤ slots most (length d) (length fs) → AllByRecursion (Fits most) xs
     → (files_below (files_in most next (listed i xs d) (laid most i xs fs)) (i + length xs) ≡ files_below (files_in most next d fs) i ++ xs) × (length (laid most i xs fs) ≡ length fs)
 files_laid most next [] i d fs h a = let z : i + 0 ≡ i = omega arith in (ap (files_below (files_in most next d fs)) z ∙ sym (append-nil (files_below (files_in most next d fs) i)), refl)
 files_laid most next (f ∷ xs) i d fs h a =
@@ -94,7 +94,7 @@ free_mark n j = by (cases_lt (2 * j) n)
     by (inr h) = get_or_past (replicate n 0) (2 * j) 0 (omega (arith, length-replicate {A = ℕ} n 0))
 
 -- files laid into cleared slots are the files held
-pub files_come_back : (most next : ℕ) (xs : List (ℕ × List ℕ)) (n : ℕ) (fs : List ℕ) → length xs ≤ slots most n (length fs) → All (Fits most) xs
+pub files_come_back : (most next : ℕ) (xs : List (ℕ × List ℕ)) (n : ℕ) (fs : List ℕ) → length xs ≤ slots most n (length fs) → AllByRecursion (Fits most) xs
     → files_held (files_in most next (listed 0 xs (replicate n 0)) (laid most 0 xs fs)) ≡ xs
 files_come_back most next xs n fs h a =
     let z : slots most n (length fs) ≡ 0 + length xs + (slots most n (length fs) - length xs) = omega arith in
@@ -109,7 +109,7 @@ files_come_back most next xs n fs h a =
     ∙ p.0
 
 -- the files that memory holds can be read
-slot_fits : (s : Files) (i : ℕ) → s.most ≤ 65536 → AreWords s.directory → All (Fits s.most) (file_of_slot s i)
+slot_fits : (s : Files) (i : ℕ) → s.most ≤ 65536 → AreWords s.directory → AllByRecursion (Fits s.most) (file_of_slot s i)
 slot_fits s i few a = by (eqb (mark_at s.directory i) 0) refl
   where
     mark : mark_at s.directory i < 2 ^ 64
@@ -126,10 +126,10 @@ slot_fits s i few a = by (eqb (mark_at s.directory i) 0) refl
         either true e = omega (arith, leb-true (length_at s.directory i) (slot_size s.most) e, length-take (length_at s.directory i) (drop (i * slot_size s.most) s.bytes))
         either false e = omega arith
 
-    by : (b : Bool) → eqb (mark_at s.directory i) 0 ≡ b → All (Fits s.most) (cond b [] ((mark_at s.directory i - 1, slot_bytes s.most s.directory s.bytes i) ∷ []))
+    by : (b : Bool) → eqb (mark_at s.directory i) 0 ≡ b → AllByRecursion (Fits s.most) (cond b [] ((mark_at s.directory i - 1, slot_bytes s.most s.directory s.bytes i) ∷ []))
     by true e = tt
     by false e = let ne = eqb-false (mark_at s.directory i) 0 e in let m = mark in let n = short in ((omega arith, omega arith, n), tt)
 
-pub files_fit : (s : Files) (n : ℕ) → s.most ≤ 65536 → AreWords s.directory → All (Fits s.most) (files_below s n)
+pub files_fit : (s : Files) (n : ℕ) → s.most ≤ 65536 → AreWords s.directory → AllByRecursion (Fits s.most) (files_below s n)
 files_fit s zero few a = tt
 files_fit s (suc n) few a = All-append (Fits s.most) (files_below s n) (file_of_slot s n) (files_fit s n few a) (slot_fits s n few a)

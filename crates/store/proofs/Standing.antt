@@ -1,6 +1,6 @@
 -- What is read of bytes from a place on, where what stands there is known.
 use Rattle.std.proofs.Common.{◌≡◌, ℕ, ◌+◌, ◌-◌, ◌*◌, ◌^◌, ◌<◌, ◌≤◌, List, [], ◌∷◌, ◌++◌, length, take, drop, set, Ok, sum_by, sym, refl, ap, ◌∙◌, arith}
-use Rattle.std.specs.List.{flat_map, AllByRecursion as All}
+use Rattle.std.specs.List.{flat_map, AllByRecursion}
 use Rattle.std.proofs.lemmas.List.{append_assoc, drop_at, drop-drop, length-append, length-drop, take_at}
 use Rattle.std.proofs.lemmas.List.Sums.{sum_by-cons}
 use Rattle.std.proofs.lemmas.Bool.Decides.{nat_tests}
@@ -95,7 +95,7 @@ laid most i (f ∷ xs) fs = laid most (i + 1) xs (put_at (i * slot_size most) f.
 abbrev pub Fits : ℕ → ℕ × List ℕ → Type 0
 Fits most f = (f.0 < 2 ^ 64 - 1) × (length f.1 < 2 ^ 64) × (length f.1 ≤ slot_size most)
 
-pub files_stand : (most : ℕ) (bs : List ℕ) (xs : List (ℕ × List ℕ)) (rest : List ℕ) (i at : ℕ) (d fs : List ℕ) → All (Fits most) xs → drop at bs ≡ flat_map numbered xs ++ rest
+pub files_stand : (most : ℕ) (bs : List ℕ) (xs : List (ℕ × List ℕ)) (rest : List ℕ) (i at : ℕ) (d fs : List ℕ) → AllByRecursion (Fits most) xs → drop at bs ≡ flat_map numbered xs ++ rest
     → files_read most bs (length xs) i at d fs ≡ (Ok (at + length (flat_map numbered xs)), listed i xs d, laid most i xs fs)
 unfolding files_read
 files_stand most bs [] rest i at d fs a e = let z : at ≡ at + 0 = omega arith in ap (λ k. (Ok k, d, fs)) z
@@ -119,7 +119,7 @@ abbrev pub logged : ℕ → List (List ℕ) → List ℕ → List ℕ
 logged used [] log = log
 logged used (c ∷ cs) log = logged (used + length c) cs (put_at used c log)
 
-pub entries_stand : (bs : List ℕ) (cs : List (List ℕ)) (rest : List ℕ) (k at used : ℕ) (es log : List ℕ) → All (λ c. length c < 2 ^ 64) cs → used + sum_by length cs ≤ length log → drop at bs ≡ flat_map counted cs ++ rest
+pub entries_stand : (bs : List ℕ) (cs : List (List ℕ)) (rest : List ℕ) (k at used : ℕ) (es log : List ℕ) → AllByRecursion (λ c. length c < 2 ^ 64) cs → used + sum_by length cs ≤ length log → drop at bs ≡ flat_map counted cs ++ rest
     → entries_read bs (length cs) k at used es log ≡ (Ok (at + length (flat_map counted cs)), ended k used cs es, logged used cs log)
 unfolding entries_read
 entries_stand bs [] rest k at used es log a h e = let z : at ≡ at + 0 = omega arith in ap (λ j. (Ok j, es, log)) z

@@ -1,6 +1,6 @@
 -- Lists put together.
 use Rattle.std.proofs.Common.{◌≡◌, Bool, true, ◌||◌, List, [], ◌∷◌, ◌++◌, length, filter, sym, refl, ap, ◌∙◌, subst, append_assoc, arith}
-use Rattle.std.specs.List.{flat_map, AllByRecursion as All}
+use Rattle.std.specs.List.{flat_map, AllByRecursion}
 use Rattle.std.proofs.ByRecursion.{All-take, All-drop}
 use Rattle.std.proofs.lemmas.List.{take_at, drop_at}
 use Rattle.std.proofs.lemmas.Bool.Decides.{nat_tests}
@@ -31,9 +31,9 @@ module _ {X : Type 0} (p : X → Bool) where
       grind (arith, nat_tests)
 
 -- what holds of each element of the two
-module _ {X : Type 0} (P : X → Type 0) (xs ys : List X) (h : All P (xs ++ ys)) where
-  pub all_left : All P xs
-  all_left = subst (All P) (take_at xs ys (length xs) refl) (All-take P (length xs) (xs ++ ys) h)
+module _ {X : Type 0} (P : X → Type 0) (xs ys : List X) (h : AllByRecursion P (xs ++ ys)) where
+  pub all_left : AllByRecursion P xs
+  all_left = subst (AllByRecursion P) (take_at xs ys (length xs) refl) (All-take P (length xs) (xs ++ ys) h)
 
-  pub all_right : All P ys
-  all_right = subst (All P) (drop_at xs ys (length xs) refl) (All-drop P (length xs) (xs ++ ys) h)
+  pub all_right : AllByRecursion P ys
+  all_right = subst (AllByRecursion P) (drop_at xs ys (length xs) refl) (All-drop P (length xs) (xs ++ ys) h)

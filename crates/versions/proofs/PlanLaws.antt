@@ -1,6 +1,6 @@
 -- Laws of plans: which files they make and take, that they do their order where they were made, and that they carry over to later versions.
 use Rattle.std.proofs.Common.{◌≡◌, ℕ, ◌+◌, ◌<◌, ◌≤◌, Bool, true, false, cond, ◌&&◌, ltb, leb, List, [], ◌∷◌, ◌++◌, map, length, take, drop, filter, sym, refl, ap, ◌∙◌, subst, append-nil, add-zero, arith}
-use Rattle.std.specs.List.{flat_map, AllByRecursion as All}
+use Rattle.std.specs.List.{flat_map, AllByRecursion}
 use Rattle.std.proofs.ByRecursion.{All-append, All-take, All-drop}
 use Rattle.std.proofs.lemmas.Bool.Decides.{nat_tests}
 use Rattle.rows.specs.declared.row.Row.{Row}
@@ -67,7 +67,7 @@ module _ (n : ℕ) (fs : List File) (k : ℕ) (b : Block n fs) where
 
 -- files whose writer began at a version
 abbrev pub Begun : ℕ → List File → Type 0
-Begun v fs = All (λ f. f.began ≡ v) fs
+Begun v fs = AllByRecursion (λ f. f.began ≡ v) fs
 
 -- what is common to the plans: the numbers of the new files, where their writer began, and that all that is taken is there
 pub record Laid (n v : ℕ) (live : List ℕ) (p : Plan) : Type 0 where

@@ -1,6 +1,6 @@
 -- What is promised of versions and of plans.
 use Rattle.std.specs.Prelude.{◌≡◌, ℕ, ◌<◌, ◌≤◌, true, false, List, ◌++◌, length, take, drop, count_by, nat_eq, slice_index_or}
-use Rattle.std.specs.List.{flat_map, AllByRecursion as All}
+use Rattle.std.specs.List.{flat_map, AllByRecursion}
 use Rattle.rows.specs.declared.row.Row.{Row}
 use Rattle.rows.specs.declared.span.Span.{Span}
 use Rattle.rows.specs.Orders.{Order, done_to, touched}
@@ -35,14 +35,14 @@ AddedOnce cs = (n : ℕ) → tally n (all_added cs) ≤ 1
 
 -- each file holds the rows that its number has for good
 abbrev pub Faithful : (ℕ → List Row) → List File → Type 0
-Faithful contents fs = All (λ f. f.rows ≡ contents f.number) fs
+Faithful contents fs = AllByRecursion (λ f. f.rows ≡ contents f.number) fs
 
 -- the keys that are told of added files are the smallest and the largest of their rows
 abbrev pub Keyed : (ℕ → List Row) → List Added → Type 0
-Keyed contents adds = All (λ a. a.keys ≡ keys_of (contents a.number)) adds
+Keyed contents adds = AllByRecursion (λ a. a.keys ≡ keys_of (contents a.number)) adds
 
 abbrev pub AllKeyed : (ℕ → List Row) → List TableChange → Type 0
-AllKeyed contents cs = All (λ c. Keyed contents c.adds) cs
+AllKeyed contents cs = AllByRecursion (λ c. Keyed contents c.adds) cs
 
 -- the files of a version do not change when entries are put behind
 abbrev pub VersionsAreFixed : Type 0
