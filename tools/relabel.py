@@ -33,7 +33,6 @@ def plain(w):
 def main(crate, names):
     with open(names) as f:
         made = json.load(f)
-    name = os.path.basename(os.path.realpath(crate))
     for key, value in made.items():
         if "-proofs." not in key:
             continue

@@ -14,7 +14,6 @@ import sys
 NAME = r"[A-Za-z][\w'-]*"
 TOKEN = re.compile(r"(?<![\w'◌-])" + NAME)
 USE = re.compile(r"(?ms)^(?:ghost )?use ([\w.'-]+)\.\{([^}]*)\}")
-MODULE_USE = re.compile(r"(?m)^(?:ghost )?use ([\w.'-]+?)(?: as (" + NAME + r"))?;?$")
 DEFINED = re.compile(r"(?m)^[ ]*(?:abbrev |unfoldable |opaque )*(?:pub )?(?:record |data )?(" + NAME + r")((?: \([^)]*\)| \{[^}]*\})*) :(?= )")
 LOCAL = re.compile(r"(?:\blet |[(λ{] ?)(" + NAME + r")(?= [:=.]|(?: " + NAME + r")* [:.])")
 
