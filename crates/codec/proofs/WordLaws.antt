@@ -1,26 +1,16 @@
 -- The laws of bytes and numbers: what writes leave, and that reading gives back what was written.
-use Rattle.std.proofs.Common.{◌≡◌, ℕ, zero, suc, ◌+◌, ◌-◌, ◌*◌, ◌/◌, ◌%◌, ◌^◌, ◌<◌, ◌≤◌, List, [], ◌∷◌, ◌++◌, length, get_or, take, drop, sum, sym, refl, ap, ◌∙◌, pow-suc, arith}
+use Rattle.std.proofs.Common.{◌≡◌, ℕ, zero, suc, ◌+◌, ◌-◌, ◌*◌, ◌/◌, ◌%◌, ◌^◌, ◌<◌, ◌≤◌, leb, List, [], ◌∷◌, ◌++◌, length, get_or, take, drop, Some, sum, sym, refl, ap, ◌∙◌, pow-suc, arith}
 use native.Mathlib.Nat.{div-div-eq-div-mul}
 use borrow.Rule.Slice.PartMut.{put_mid}
-use Rattle.std.proofs.lemmas.List.{append-nil, append_assoc, drop-drop, drop_all, drop-append-le, drop_at, drop-take, get_or-drop, length-append, length-take, length-take-le, length-drop, take_at, take-append-drop, take-append-le, take_more, take_rest, take-take}
+use Rattle.std.proofs.lemmas.List.{append-nil, append_assoc, drop-drop, drop_all, drop-append-le, drop_at, drop-take, length-append, length-take, length-take-le, length-drop, take_at, take-append-drop, take-append-le, take_more, take_rest, take-take}
 use Rattle.std.proofs.ByRecursion.{All-take, All-drop}
 use Rattle.std.proofs.lemmas.List.Sums.{sum_by_more}
-use Rattle.codec.specs.Words.{AreBytes, AreWords, le, bytes_le, put_at, bytes_of, words, words_of}
+use Rattle.codec.proofs.BoundLaws.{some_of_cond}
+use Rattle.codec.specs.Words.{AreBytes, AreWords, le, word_from, bytes_le, put_at, bytes_of, words, words_of}
 
 -- eight bytes, as the code makes them of a number and a number of them
 pub bytes_eight : (x : ℕ) → (x % 256) ∷ (x / 256 % 256) ∷ (x / 65536 % 256) ∷ (x / 16777216 % 256) ∷ (x / 4294967296 % 256) ∷ (x / 1099511627776 % 256) ∷ (x / 281474976710656 % 256) ∷ (x / 72057594037927936 % 256) ∷ [] ≡ bytes_le 8 x
 bytes_eight x = simp div-div-eq-div-mul
-
-le_more : (ys : List ℕ) → le ys ≡ get_or ys 0 0 + le (drop 1 ys) * 256
-le_more [] = refl
-le_more (y ∷ ys) = refl
-
-le_at : (k : ℕ) (ys : List ℕ) → le (drop k ys) ≡ get_or ys (k + 0) 0 + le (drop (k + 1) ys) * 256
-le_at k ys = simp (get_or-drop, drop-drop) at (le_more (drop k ys))
-
-pub le_eight : (ys : List ℕ) → length ys ≤ 8 → get_or ys 0 0 + get_or ys 1 0 * 256 + get_or ys 2 0 * 65536 + get_or ys 3 0 * 16777216 + get_or ys 4 0 * 4294967296 + get_or ys 5 0 * 1099511627776 + get_or ys 6 0 * 281474976710656 + get_or ys 7 0 * 72057594037927936 ≡ le ys
-le_eight ys h =
-    omega (arith, le_more ys, le_at 1 ys, le_at 2 ys, le_at 3 ys, le_at 4 ys, le_at 5 ys, le_at 6 ys, le_at 7 ys, ap le (drop_all 8 ys h))
 
 -- a number and its lowest bytes
 pub length_bytes_le : (k x : ℕ) → length (bytes_le k x) ≡ k
@@ -122,8 +112,11 @@ unfolding words
 words_below zero xs a = tt
 words_below (suc n) xs a = (le_below 8 (take 8 xs) (All-take (λ b. b < 256) 8 xs a) (omega (arith, length-take 8 xs)), words_below n (drop 8 xs) (All-drop (λ b. b < 256) 8 xs a))
 
-pub word_is : (xs part : List ℕ) (k n r : ℕ) → 8 * k + 8 ≤ length xs → part ≡ take n (drop (8 * k) xs) → n ≡ 8 → r ≡ le part → r ≡ get_or (words_of xs) k 0
-word_is xs part k n r h e m f = f ∙ ap le (e ∙ ap (λ j. take j (drop (8 * k) xs)) m) ∙ sym (get_d_words (length xs / 8) k xs (omega arith))
+pub word_read : (xs : List ℕ) (k r : ℕ) → 8 * k + 8 ≤ length xs → word_from (8 * k) xs ≡ Some r → r ≡ get_or (words_of xs) k 0
+word_read xs k r h e =
+    let p = some_of_cond (leb (8 * k + 8) (length xs)) (Some (le (take 8 (drop (8 * k) xs)))) r e in
+    let s : le (take 8 (drop (8 * k) xs)) ≡ r = cc p.1 in
+    sym s ∙ sym (get_d_words (length xs / 8) k xs (omega arith))
 
 -- the bytes of several numbers
 pub length_bytes_of : (ws : List ℕ) → length (bytes_of ws) ≡ 8 * length ws

@@ -1,15 +1,21 @@
 // Bytes as numbers of 64 bits, eight bytes to each, the least byte first. Places are counted in numbers.
 ghost use Rattle.std.specs.Prelude.{◌≡◌, ◌+◌, ◌*◌, ◌%◌, ◌^◌, ◌≤◌, length, take, sum, slice_index};
-ghost use Rattle.codec.specs.Words.{AreWords, bytes_le, put_at, words_of, bytes_of};
+ghost use Rattle.codec.specs.Words.{AreWords, word_from, bytes_le, put_at, words_of, bytes_of};
+
+// The number that the eight bytes from a byte on write; none where they are cut short.
+pub fn word_from(bytes: &[u8], at: usize) -> Option<u64>
+    ensures { result ≡ word_from at bytes.now }
+{
+    let (word, _) = bytes.get(at..)?.split_first_chunk()?;
+    Some(u64::from_le_bytes(*word))
+}
 
 // The number at a place.
 pub(crate) fn word_at(bytes: &[u8], k: usize) -> u64
     requires { 8 * k + 8 ≤ length bytes.now }
     ensures { result ≡ slice_index (words_of bytes.now) k }
 {
-    let mut word = [0; 8];
-    word.copy_from_slice(&bytes[8 * k..8 * k + 8]);
-    u64::from_le_bytes(word)
+    word_from(bytes, 8 * k).unwrap()
 }
 
 // The sum of the first n numbers, modulo 2^64.
