@@ -54,10 +54,9 @@ pub held_or_free : (s : Files) (n : ℕ) → length (files_below s n) + free_bel
 held_or_free s zero = refl
 held_or_free s (suc n) = let p = length-append (files_below s n) (file_of_slot s n) in let q = held_or_free s n in grind (arith, nat_tests, p, q)
 
-pub held_count : (horizon count : ℕ) (s : Files) (n free : ℕ) → n ≡ slots_of s → free ≡ free_below s.directory n → record { horizon = horizon; next = s.next; most_rows = s.most; slots = n; files = n - free; entries = count } ≡ header_of horizon count s
+pub held_count : (horizon count : ℕ) (s : Files) (n free : ℕ) → n ≡ slots_of s → free ≡ free_below s.directory (slots_of s) → record { horizon = horizon; next = s.next; most_rows = s.most; slots = n; files = n - free; entries = count } ≡ header_of horizon count s
 held_count horizon count s n free e f =
-    let p : n - free ≡ length (files_below s n) = omega (arith, held_or_free s n, f) in
-    let q : n - free ≡ length (files_held s) = p ∙ ap (λ k. length (files_below s k)) e in
+    let q : n - free ≡ length (files_held s) = omega (arith, held_or_free s (slots_of s), e, f) in
     λ j. record { horizon = horizon; next = s.next; most_rows = s.most; slots = e j; files = q j; entries = count }
 
 -- the header, the files and the entries, one behind the other

@@ -222,6 +222,7 @@ module _ (s : Files) (f : File) (i : ℕ) (h : Filled s f i) where
       let many = slots s.most (length s.directory) (length s.bytes) in
       let put : take (length (file_bytes f)) (drop (i * slot_size s.most) written) ≡ file_bytes f = read_put (i * slot_size s.most) (file_bytes f) s.bytes (omega (arith, p.1)) in
       let bs : take (length_at listed i) (drop (i * slot_size s.most) written) ≡ file_bytes f = ap (λ l. take l (drop (i * slot_size s.most) written)) m.1 ∙ put in
+      let held : file_bytes f ≡ slot_bytes s.most listed written i = sym (ap (λ b. cond b (take (length_at listed i) (drop (i * slot_size s.most) written)) []) (le-leb (length_at listed i) (slot_size s.most) (omega (arith, m.1, h.room))) ∙ bs) in
       let part : Part = record { start = i * slot_size s.most; length = length (file_bytes f) } in
       let there : part ≡ record { start = i * slot_size s.most; length = length_at listed i } = λ k. record { start = i * slot_size s.most; length = sym m.1 k } in
       let only : slot_with listed (slots s.most (length s.directory) (length s.bytes)) (s.next + 1) ≡ Some i =
@@ -229,7 +230,7 @@ module _ (s : Files) (f : File) (i : ℕ) (h : Filled s f i) where
       let long : slots s.most (length s.directory) (length s.bytes) ≡ slots s.most (length listed) (length written) =
       ap (λ k. slots s.most k (length s.bytes)) (sym length_listed) ∙ ap (slots s.most (length listed)) (sym length_written) in
       let back : file_in (file_bytes f) ≡ Some f = files_come_back f h.fits in
-      let here = stored_here s.most listed written s.next i (omega (arith, m.1, h.room)) (file_bytes f) (sym bs) (head_of f) part (sym (ap (option_map head_of) back)) h.number there in
+      let here = stored_here s.most listed written s.next i (file_bytes f) held (head_of f) part (sym (ap (option_map head_of) back)) h.number there in
       (part, sym (here ∙ stored_in s.most listed written s.next many i long (sym only)), put, ap file_in put ∙ back)
 
   -- what other numbers have is as it was

@@ -1,15 +1,17 @@
 -- What reading in leaves of the lent memory.
-use Rattle.std.proofs.Common.{◌≡◌, ℕ, zero, suc, ◌+◌, ◌-◌, ◌*◌, ◌^◌, ◌<◌, ◌≤◌, cond, ltb, List, length, take, drop, set, replicate, Ok, Err, Result, sym, refl, ap, ◌∙◌, arith}
+use Rattle.std.proofs.Common.{◌≡◌, ℕ, zero, suc, ◌+◌, ◌-◌, ◌*◌, ◌^◌, ◌<◌, ◌≤◌, cond, ltb, List, length, take, drop, set, replicate, Some, Ok, Err, Result, sym, refl, ap, ◌∙◌, arith}
 use borrow.Rule.Slice.PartMut.{put_mid}
 use Rattle.std.proofs.lemmas.List.{length-drop, length-set, length-take-le}
 use Rattle.std.proofs.lemmas.Bool.{le-ltb, lt-ltb}
 use Rattle.std.proofs.lemmas.Bool.Decides.{nat_tests}
+use Rattle.codec.specs.Words.{word_from}
 use Rattle.codec.proofs.WordLaws.{length_put_at, put_mid-put_at}
 use Rattle.store.specs.declared.header.Header.{Header}
 use Rattle.store.specs.declared.unread.Unread.{Unread}
 use Rattle.store.specs.declared.unread.Unread.TheVariants.{At, TooSmall}
 use Rattle.store.specs.Import.{word_at, header_in, file_end, read_to, file_read, read_on, files_read, entry_end, place_to, place_read, entries_read, Body, body_end, body_entries, body_read, Import, numbers_at, body_told, read_by, read_in}
 use Rattle.store.specs.Slots.{slot_size, slots}
+use Rattle.store.proofs.Readers.{word_there}
 use Rattle.store.proofs.SlotLaws.{slot_inside}
 
 pub read_not : (most at : ℕ) (bs : List ℕ) (i : ℕ) (d fs : List ℕ) (u : Unread) → Err u ≡ file_end most at bs → (Err u, d, fs) ≡ file_read most at bs i d fs
@@ -20,13 +22,20 @@ read_not most at bs i d fs u e = ap (read_to most at bs i d fs) e
 pub end_within : (most at : ℕ) (bs : List ℕ) (end : ℕ) → Ok end ≡ file_end most at bs → (at + 16 ≤ end) × (end ≤ length bs) × (end ≤ at + 16 + slot_size most)
 end_within most at bs end e = grind (arith, nat_tests, e)
 
-pub read_done : (most at : ℕ) (bs : List ℕ) (i : ℕ) (d fs : List ℕ) (size end w k : ℕ) (part : List ℕ) → Ok end ≡ file_end most at bs → size ≡ slot_size most → w ≡ word_at at bs → k ≡ end - at - 16 → part ≡ take (end - (at + 16)) (drop (at + 16) bs) → (Ok end, set (set d (2 * i) (w + 1)) (1 + 2 * i) (end - at - 16), put_mid (i * size) k fs part) ≡ file_read most at bs i d fs
+pub read_done : (most at : ℕ) (bs : List ℕ) (i : ℕ) (d fs : List ℕ) (start end w n k : ℕ) (part : List ℕ) → Ok end ≡ file_end most at bs → start ≡ i * slot_size most → Some w ≡ word_from 0 (drop at bs)
+    → n ≡ length (take (end - (at + 16)) (drop (at + 16) bs)) → k ≡ n → part ≡ take (end - (at + 16)) (drop (at + 16) bs)
+    → (Ok end, set (set d (2 * i) (w + 1)) (1 + 2 * i) n, put_mid start k fs part) ≡ file_read most at bs i d fs
 unfolding file_read
-read_done most at bs i d fs size end w k part e z v h p =
-    let n = end_within most at bs end e in
+read_done most at bs i d fs start end w n k part e z v l h p =
+    let b = end_within most at bs end e in
+    let x = word_there at 0 bs w v in
+    let word : w ≡ word_at at bs = let y : at + 0 ≡ at = omega arith in x.1 ∙ ap (λ j. word_at j bs) y in
     let q : part ≡ take (end - at - 16) (drop (at + 16) bs) = p ∙ ap (λ j. take j (drop (at + 16) bs)) (omega arith) in
-    let m : k ≡ length (take (end - at - 16) (drop (at + 16) bs)) = omega (arith, h, n.0, n.1, length-drop (at + 16) bs, length-take-le (end - at - 16) (drop (at + 16) bs) (omega (arith, n.0, n.1, length-drop (at + 16) bs))) in
-    (λ j. (Ok end, set (set d (2 * i) (v j + 1)) (1 + 2 * i) (end - at - 16), (ap (λ y. put_mid (i * y) k fs part) z ∙ put_mid-put_at (i * slot_size most) k fs (take (end - at - 16) (drop (at + 16) bs)) part q m) j)) ∙ ap (read_to most at bs i d fs) e
+    let same : take (end - (at + 16)) (drop (at + 16) bs) ≡ take (end - at - 16) (drop (at + 16) bs) = ap (λ j. take j (drop (at + 16) bs)) (omega arith) in
+    let long : length (take (end - at - 16) (drop (at + 16) bs)) ≡ end - at - 16 = length-take-le (end - at - 16) (drop (at + 16) bs) (omega (arith, b.0, b.1, length-drop (at + 16) bs)) in
+    let many : n ≡ end - at - 16 = l ∙ ap length same ∙ long in
+    let m : k ≡ length (take (end - at - 16) (drop (at + 16) bs)) = h ∙ many ∙ sym long in
+    (λ j. (Ok end, set (set d (2 * i) (word j + 1)) (1 + 2 * i) (many j), (ap (λ y. put_mid y k fs part) z ∙ put_mid-put_at (i * slot_size most) k fs (take (end - at - 16) (drop (at + 16) bs)) part q m) j)) ∙ ap (read_to most at bs i d fs) e
 
 -- a file that was read leaves both slices as long as they were
 pub read_keeps : (most at : ℕ) (bs : List ℕ) (i : ℕ) (d fs : List ℕ) (end : ℕ) (d' fs' : List ℕ) → i < slots most (length d) (length fs) → ◌≡◌ {A = Result ℕ Unread × List ℕ × List ℕ} (Ok end, d', fs') (file_read most at bs i d fs) → (end ≤ length bs) × (length d' ≡ length d) × (length fs' ≡ length fs)
@@ -83,13 +92,14 @@ entry_within at left bs end e = grind (arith, nat_tests, e)
 entry_long : (at left : ℕ) (bs : List ℕ) (end : ℕ) → Ok end ≡ entry_end at left bs → length (take (end - at - 8) (drop (at + 8) bs)) ≡ end - at - 8
 entry_long at left bs end e = let n = entry_within at left bs end e in length-take-le (end - at - 8) (drop (at + 8) bs) (omega (arith, n.0, n.1, length-drop (at + 8) bs))
 
-pub place_done : (at : ℕ) (bs : List ℕ) (k used : ℕ) (es log : List ℕ) (end m : ℕ) (part : List ℕ) → Ok end ≡ entry_end at (length log - used) bs → m ≡ end - at - 8 → part ≡ take (end - (at + 8)) (drop (at + 8) bs) → (Ok end, set es k (used + (end - at - 8)), put_mid used m log part) ≡ place_read at bs k used es log
+pub place_done : (at : ℕ) (bs : List ℕ) (k used : ℕ) (es log : List ℕ) (end n m : ℕ) (part : List ℕ) → Ok end ≡ entry_end at (length log - used) bs → n ≡ length (take (end - (at + 8)) (drop (at + 8) bs)) → m ≡ n
+    → part ≡ take (end - (at + 8)) (drop (at + 8) bs) → (Ok end, set es k (used + n), put_mid used m log part) ≡ place_read at bs k used es log
 unfolding place_read
-place_done at bs k used es log end m part e h p =
-    let n = entry_within at (length log - used) bs end e in
-    let q : part ≡ take (end - at - 8) (drop (at + 8) bs) = p ∙ ap (λ j. take j (drop (at + 8) bs)) (omega arith) in
-    let r : m ≡ length (take (end - at - 8) (drop (at + 8) bs)) = h ∙ sym (entry_long at (length log - used) bs end e) in
-    (λ j. (Ok end, set es k (used + (end - at - 8)), put_mid-put_at used m log (take (end - at - 8) (drop (at + 8) bs)) part q r j)) ∙ ap (place_to at bs k used es log) e
+place_done at bs k used es log end n m part e l h p =
+    let same : take (end - (at + 8)) (drop (at + 8) bs) ≡ take (end - at - 8) (drop (at + 8) bs) = ap (λ j. take j (drop (at + 8) bs)) (omega arith) in
+    let long = entry_long at (length log - used) bs end e in
+    let many : n ≡ end - at - 8 = l ∙ ap length same ∙ long in
+    (λ j. (Ok end, set es k (used + many j), put_mid-put_at used m log (take (end - at - 8) (drop (at + 8) bs)) part (p ∙ same) (h ∙ many ∙ sym long) j)) ∙ ap (place_to at bs k used es log) e
 
 -- an entry that was read leaves both slices as long as they were
 pub place_keeps : (at : ℕ) (bs : List ℕ) (k used : ℕ) (es log : List ℕ) (end : ℕ) (es' log' : List ℕ) → used ≤ length log → ◌≡◌ {A = Result ℕ Unread × List ℕ × List ℕ} (Ok end, es', log') (place_read at bs k used es log) → (at + 8 ≤ end) × (end ≤ length bs) × (used + (end - at - 8) ≤ length log) × (length es' ≡ length es) × (length log' ≡ length log)

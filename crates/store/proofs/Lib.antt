@@ -1,8 +1,11 @@
 pub mod ExportLaws
+pub mod Readers
 pub mod ImportLaws
 pub mod LogLaws
 pub mod SlotLaws
+pub mod SlotLists
 pub mod PutLaws
+pub mod Views
 pub mod Searches
 pub mod FileKeeping
 pub mod PutKeeping

@@ -1,6 +1,6 @@
 -- Entries of a log, as they are read and put.
-use Rattle.std.proofs.Common.{◌≡◌, ℕ, ◌+◌, ◌-◌, ◌<◌, ◌≤◌, true, cond, eqb, leb, List, ◌++◌, length, take, drop, set, Some, None, Ok, Err, Option, Result, sym, ap, ◌∙◌, arith}
-use Rattle.std.proofs.lemmas.Bool.{lt-ltb, le-ltb, le-leb, eq-eqb, ne_eqb}
+use Rattle.std.proofs.Common.{◌≡◌, ℕ, ◌+◌, ◌-◌, ◌<◌, ◌≤◌, Bool, true, false, cond, eqb, leb, List, ◌++◌, length, take, drop, set, Some, None, Ok, Err, Option, Result, sym, refl, ap, ◌∙◌, arith}
+use Rattle.std.proofs.lemmas.Bool.{lt-ltb, le-ltb, le-leb, eq-eqb}
 use Rattle.std.proofs.lemmas.List.{take_rest, length-drop}
 use Rattle.std.proofs.lemmas.Bool.Decides.{nat_tests}
 use Rattle.rows.specs.Checks.{some_else}
@@ -12,7 +12,7 @@ use Rattle.codec.specs.Words.{put_at}
 use Rattle.codec.proofs.WordLaws.{lent_on}
 use borrow.Rule.Slice.PartMut.{put_mid}
 use Rattle.store.specs.declared.unput.Unput.{Unput}
-use Rattle.store.specs.Log.{log_end, bounds_of, entry_placed, entry_at, place_for, Log, put_there, put_entry}
+use Rattle.store.specs.Log.{log_end, entry_bytes_at, entry_placed, entry_at, place_for, Log, put_there, put_entry}
 
 module _ (count : ℕ) (ends log : List ℕ) (k : ℕ) where
   pub entry_beyond : count ≤ k → None ≡ entry_at count ends log k
@@ -20,37 +20,40 @@ module _ (count : ℕ) (ends log : List ℕ) (k : ℕ) where
   entry_beyond h = rw (le-ltb k count h)
 
   module _ (h : k < count) where
-    pub entry_unbounded : None ≡ bounds_of ends (length log) k → None ≡ entry_at count ends log k
+    within : some_else (entry_bytes_at ends log k) None (entry_placed k) ≡ entry_at count ends log k
     unfolding entry_at
-    entry_unbounded e = let t = lt-ltb k count h in cc
+    within = ap (λ t. cond t (some_else (entry_bytes_at ends log k) None (entry_placed k)) None) (sym (lt-ltb k count h))
 
-    pub entry_bounded : (a b : ℕ) → Some (a, b) ≡ bounds_of ends (length log) k → entry_placed k (take (b - a) (drop a log)) ≡ entry_at count ends log k
-    unfolding entry_at
-    entry_bounded a b e =
-        ap (λ o. some_else (some_else o None (λ p. Some (take (p.1 - p.0) (drop p.0 log)))) None (entry_placed k)) e
-        ∙ ap (λ t. cond t (some_else (some_else (bounds_of ends (length log) k) None (λ p. Some (take (p.1 - p.0) (drop p.0 log)))) None (entry_placed k)) None) (sym (lt-ltb k count h))
+    pub entry_unbounded : None ≡ entry_bytes_at ends log k → None ≡ entry_at count ends log k
+    entry_unbounded e = ap (λ o. some_else o None (entry_placed k)) e ∙ within
+
+    -- what was read of the entry's bytes, if it bears the place
+    pub entry_kept : (bs : List ℕ) (read kept : Option Entry) → Some bs ≡ entry_bytes_at ends log k → ◌≡◌ {A = Result (Option LogEntry) Refusal} (Ok (option_map entry_of read)) (Ok (entry_in bs))
+        → (read ≡ None → kept ≡ None) → ((x : Entry) → read ≡ Some x → kept ≡ cond (eqb x.place k) (Some x) None)
+        → option_map entry_of kept ≡ entry_at count ends log k
+    entry_kept bs read kept e r none some =
+        by read none some ∙ ap (λ o. some_else o None placed_so) is ∙ ap (λ o. some_else o None (entry_placed k)) e ∙ within
+      where
+        placed_so : LogEntry → Option LogEntry
+        placed_so x = cond (eqb x.place k) (Some x) None
+
+        is : option_map entry_of read ≡ entry_in bs
+        is = cc
+
+        told : (x : Entry) (b : Bool) → option_map entry_of (cond b (Some x) None) ≡ cond b (Some (entry_of x)) None
+        told x true = refl
+        told x false = refl
+
+        by : (o : Option Entry) → (o ≡ None → kept ≡ None) → ((x : Entry) → o ≡ Some x → kept ≡ cond (eqb x.place k) (Some x) None) → option_map entry_of kept ≡ some_else (option_map entry_of o) None placed_so
+        by None n m = ap (option_map entry_of) (n refl)
+        by (Some x) n m = ap (option_map entry_of) (m x refl) ∙ told x (eqb x.place k)
 
 pub placed_none : (k : ℕ) (bs : List ℕ) → None ≡ entry_in bs → None ≡ entry_placed k bs
 placed_none k bs e = ap (λ o. some_else o None (λ x. cond (eqb x.place k) (Some x) None)) e
 
-pub placed_other : (k : ℕ) (bs : List ℕ) (x : LogEntry) → Some x ≡ entry_in bs → (x.place ≡ k → ⊥) → None ≡ entry_placed k bs
-placed_other k bs x e h =
-    ap (λ b. cond b (Some x) None) (sym (ne_eqb x.place k h)) ∙ ap (λ o. some_else o None (λ y. cond (eqb y.place k) (Some y) None)) e
-
 pub placed_here : (k : ℕ) (bs : List ℕ) (x : LogEntry) → Some x ≡ entry_in bs → x.place ≡ k → Some x ≡ entry_placed k bs
 placed_here k bs x e h =
     ap (λ b. cond b (Some x) None) (sym (eq-eqb x.place k h)) ∙ ap (λ o. some_else o None (λ y. cond (eqb y.place k) (Some y) None)) e
-
--- what was read of bytes
-module _ (o : Option Entry) (bs : List ℕ) (e : ◌≡◌ {A = Result (Option LogEntry) Refusal} (Ok (option_map entry_of o)) (Ok (entry_in bs))) where
-  read_is : option_map entry_of o ≡ entry_in bs
-  read_is = cc
-
-  pub read_none : o ≡ None → None ≡ entry_in bs
-  read_none p = sym (ap (option_map entry_of) p) ∙ read_is
-
-  pub read_some : (x : Entry) → o ≡ Some x → Some (entry_of x) ≡ entry_in bs
-  read_some x p = sym (ap (option_map entry_of) p) ∙ read_is
 
 -- what is known of an entry that can be put
 pub record Placed (e : LogEntry) (count : ℕ) (ends : List ℕ) (long start n : ℕ) : Type 0 where

@@ -1,7 +1,7 @@
 -- Slots of a directory, one by one.
-use Rattle.std.proofs.Common.{◌≡◌, ℕ, zero, suc, ◌+◌, ◌-◌, ◌*◌, ◌/◌, ◌<◌, ◌≤◌, Bool, true, false, cond, eqb, List, [], ◌∷◌, ◌++◌, length, get_or, take, drop, set, Some, None, Option, sym, refl, ap, ◌∙◌, mul-le-mul_right, div-mul-le_self, add-one, arith}
-use Rattle.std.proofs.lemmas.List.{append-nil, get_or-set_other, length-set}
-use Rattle.std.proofs.lemmas.Bool.{eq-eqb, ne_eqb, le-leb, lt-leb}
+use Rattle.std.proofs.Common.{◌≡◌, ℕ, zero, suc, ◌+◌, ◌*◌, ◌/◌, ◌<◌, ◌≤◌, Bool, true, false, cond, eqb, leb, List, [], length, get_or, take, drop, set, Some, None, Option, sym, refl, ap, ◌∙◌, mul-le-mul_right, div-mul-le_self, add-one, arith}
+use Rattle.std.proofs.lemmas.List.{get_or-set_other, length-drop, length-set, length-take-le}
+use Rattle.std.proofs.lemmas.Bool.{eq-eqb, ne_eqb, leb-true, lt-leb}
 use Rattle.std.specs.Option.{option_map}
 use Rattle.rows.specs.Checks.{some_else}
 use Rattle.codec.specs.declared.file.Head.{Head}
@@ -9,25 +9,9 @@ use Rattle.codec.specs.declared.rewrite.Part.{Part}
 use Rattle.codec.specs.Files.{File, head_of, file_from, file_in}
 use Rattle.codec.proofs.SealLaws.{unsealed_empty}
 use Rattle.store.specs.declared.files.Stored.{Stored}
-use Rattle.store.specs.Slots.{slot_size, slots, mark_at, length_at, stored_at, stored, first_from, slot_with, free_below, numbers_below, freed}
+use Rattle.store.specs.Slots.{slot_size, slots, slot_bytes, mark_at, length_at, stored_at, stored, first_from, slot_with, freed}
 
 -- a search from the first slot on
-module _ (p : ℕ → Bool) (n i : ℕ) (h : i < n) where
-  first_step : first_from p (n - i) i ≡ cond (p i) (Some i) (first_from p (n - (i + 1)) (i + 1))
-  first_step = let e : n - i ≡ suc (n - (i + 1)) = omega arith in ap (λ k. first_from p k i) e
-
-  pub first_here : p i ≡ true → first_from p (n - i) i ≡ Some i
-  first_here e = first_step ∙ ap (λ b. cond b (Some i) (first_from p (n - (i + 1)) (i + 1))) e
-
-  pub first_on : p i ≡ false → first_from p (n - (i + 1)) (i + 1) ≡ first_from p (n - i) i
-  first_on e = sym (first_step ∙ ap (λ b. cond b (Some i) (first_from p (n - (i + 1)) (i + 1))) e)
-
-pub first_none : (p : ℕ → Bool) (n i : ℕ) → n ≤ i → first_from p (n - i) i ≡ None
-first_none p n i h = let e : n - i ≡ 0 = omega arith in ap (λ k. first_from p k i) e
-
-pub first_start : (p : ℕ → Bool) (n : ℕ) → first_from p (n - 0) 0 ≡ first_from p n 0
-first_start p n = let e : n - 0 ≡ n = omega arith in ap (λ k. first_from p k 0) e
-
 pub first_within : (p : ℕ → Bool) (n i j : ℕ) → Some j ≡ first_from p n i → j < i + n
 first_within p zero i j e = absurd (let z : ◌≡◌ {A = ℕ} 0 1 = cc in omega arith)
 first_within p (suc n) i j e = by (p i) (first_within p n (i + 1) j) e
@@ -48,25 +32,6 @@ slot_inside most marks bytes i h =
     let m : (i + 1) * slot_size most ≤ bytes / slot_size most * slot_size most = mul-le-mul_right (slot_size most) b in
     let d : bytes / slot_size most * slot_size most ≤ bytes = div-mul-le_self bytes (slot_size most) in
     (omega arith, omega (arith, m, d))
-
--- counting free slots
-pub free_more : (d : List ℕ) (i : ℕ) → free_below d (i + 1) ≡ free_below d i + cond (eqb (mark_at d i) 0) 1 0
-free_more d i = ap (free_below d) (add-one i)
-
--- listing slots that are not free
-module _ (d : List ℕ) (i : ℕ) (old new : List ℕ) (inv : old ≡ numbers_below d i) where
-  numbers_step : numbers_below d (i + 1) ≡ numbers_below d i ++ cond (eqb (mark_at d i) 0) [] ((mark_at d i - 1) ∷ [])
-  numbers_step = ap (numbers_below d) (add-one i)
-
-  pub numbers_listed : 0 < mark_at d i → new ≡ old ++ (mark_at d i - 1) ∷ [] → new ≡ numbers_below d (i + 1)
-  numbers_listed h e =
-      e ∙ ap (λ l. l ++ (mark_at d i - 1) ∷ []) inv
-      ∙ ap (λ b. numbers_below d i ++ cond b [] ((mark_at d i - 1) ∷ [])) (sym (ne_eqb (mark_at d i) 0 (λ z. omega arith))) ∙ sym numbers_step
-
-  pub numbers_passed : mark_at d i ≤ 0 → new ≡ old → new ≡ numbers_below d (i + 1)
-  numbers_passed h e =
-      e ∙ inv ∙ sym (append-nil (numbers_below d i))
-      ∙ ap (λ b. numbers_below d i ++ cond b [] ((mark_at d i - 1) ∷ [])) (sym (eq-eqb (mark_at d i) 0 (omega arith))) ∙ sym numbers_step
 
 -- freeing slots from the first on
 pub length_freed : (d : List ℕ) (x n : ℕ) → length (freed d x n) ≡ length d
@@ -110,21 +75,19 @@ stored_too_long most d fs n i h =
     ap (λ o. some_else o None check) file_in_nothing
     ∙ ap (λ b. some_else (file_in (cond b (take (length_at d i) (drop (i * slot_size most) fs)) [])) None check) (sym (lt-leb (length_at d i) (slot_size most) h))
 
-module _ (most : ℕ) (d fs : List ℕ) (n i : ℕ) (h : length_at d i ≤ slot_size most) (bs : List ℕ) (e : bs ≡ take (length_at d i) (drop (i * slot_size most) fs)) where
+module _ (most : ℕ) (d fs : List ℕ) (n i : ℕ) (bs : List ℕ) (e : bs ≡ slot_bytes most d fs i) where
   abbrev check : File → Option Stored
   check f = cond (eqb f.number n) (Some (record { part = record { start = i * slot_size most; length = length_at d i }; head = head_of f })) None
 
   in_slot : some_else (file_in bs) None check ≡ stored_at most d fs n i
-  in_slot =
-      ap (λ l. some_else (file_in l) None check) e
-      ∙ ap (λ b. some_else (file_in (cond b (take (length_at d i) (drop (i * slot_size most) fs)) [])) None check) (sym (le-leb (length_at d i) (slot_size most) h))
+  in_slot = ap (λ l. some_else (file_in l) None check) e
 
   pub stored_no_file : None ≡ option_map head_of (file_in bs) → None ≡ stored_at most d fs n i
-  stored_no_file p = by (file_in bs) refl p ∙ in_slot
+  stored_no_file p = by (file_in bs) p ∙ in_slot
     where
-      by : (o : Option File) → file_in bs ≡ o → None ≡ option_map head_of o → None ≡ some_else o None check
-      by None q r = refl
-      by (Some f) q r = absurd (let z : ◌≡◌ {A = ℕ} 0 1 = cc in omega arith)
+      by : (o : Option File) → None ≡ option_map head_of o → None ≡ some_else o None check
+      by None r = refl
+      by (Some f) r = absurd (let z : ◌≡◌ {A = ℕ} 0 1 = cc in omega arith)
 
   pub stored_other : (g : Head) → Some g ≡ option_map head_of (file_in bs) → (g.number ≡ n → ⊥) → None ≡ stored_at most d fs n i
   stored_other g p ne = by (file_in bs) p ∙ in_slot
@@ -136,6 +99,18 @@ module _ (most : ℕ) (d fs : List ℕ) (n i : ℕ) (h : length_at d i ≤ slot_
           let m : g.number ≡ f.number = ap (λ (x : Head). x.number) k in
           ap (λ b. cond {A = Option Stored} b (Some (record { part = record { start = i * slot_size most; length = length_at d i }; head = head_of f })) None) (sym (ne_eqb f.number n (λ z. ne (m ∙ z))))
 
+  -- a file has as many bytes as its slot says
+  pub length_told : (g : Head) → i < slots most (length d) (length fs) → Some g ≡ option_map head_of (file_in bs) → length bs ≡ length_at d i
+  length_told g h p = by (leb (length_at d i) (slot_size most)) refl e
+    where
+      by : (b : Bool) → leb (length_at d i) (slot_size most) ≡ b → bs ≡ cond b (take (length_at d i) (drop (i * slot_size most) fs)) [] → length bs ≡ length_at d i
+      by true q r =
+          ap length r
+          ∙ length-take-le (length_at d i) (drop (i * slot_size most) fs) (omega (arith, leb-true (length_at d i) (slot_size most) q, (slot_inside most (length d) (length fs) i h).1, length-drop (i * slot_size most) fs))
+      by false q r =
+          let none : option_map head_of (file_in bs) ≡ None = ap (λ l. option_map head_of (file_in l)) r ∙ ap (option_map head_of) (sym file_in_nothing) in
+          absurd (let z : ◌≡◌ {A = ℕ} 0 1 = cc in omega arith)
+
   pub stored_here : (g : Head) (part : Part) → Some g ≡ option_map head_of (file_in bs) → g.number ≡ n → part ≡ record { start = i * slot_size most; length = length_at d i } → Some (record { part = part; head = g }) ≡ stored_at most d fs n i
   stored_here g part p eq pe = by (file_in bs) p ∙ in_slot
     where
@@ -146,11 +121,6 @@ module _ (most : ℕ) (d fs : List ℕ) (n i : ℕ) (h : length_at d i ≤ slot_
           let m : g.number ≡ f.number = ap (λ (x : Head). x.number) k in
           let same : record { part = part; head = g } ≡ record { part = record { start = i * slot_size most; length = length_at d i }; head = head_of f } = λ j. record { part = pe j; head = k j } in
           ap Some same ∙ ap (λ b. cond {A = Option Stored} b (Some (record { part = record { start = i * slot_size most; length = length_at d i }; head = head_of f })) None) (sym (eq-eqb f.number n (sym m ∙ eq)))
-
-pub slot_part_is : (most : ℕ) (fs : List ℕ) (i size n : ℕ) → size ≡ slot_size most → take (i * size + n - i * size) (drop (i * size) fs) ≡ take n (drop (i * slot_size most) fs)
-slot_part_is most fs i size n e =
-    let k : i * size + n - i * size ≡ n = omega arith in
-    ap (λ m. take m (drop (i * size) fs)) k ∙ ap (λ z. take n (drop (i * z) fs)) e
 
 -- the file under a number
 pub stored_nowhere : (most : ℕ) (d fs : List ℕ) (n k : ℕ) → k ≡ slots most (length d) (length fs) → None ≡ slot_with d k (n + 1) → None ≡ stored most d fs n

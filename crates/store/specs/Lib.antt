@@ -2,6 +2,9 @@ pub mod Opening
 pub mod Log
 pub mod Slots
 pub mod Putting
+pub mod Unputs
+pub mod Memory
 pub mod Export
 pub mod Import
+pub mod Reading
 pub mod StoreLaws

@@ -20,6 +20,15 @@ mark_at directory i = slice_index directory (2 * i)
 abbrev pub length_at : List ℕ → ℕ → ℕ
 length_at directory i = slice_index directory (1 + 2 * i)
 
+-- the first so many slots as the directory has them, two numbers each
+abbrev pub slots_in : ℕ → List ℕ → List (List ℕ)
+slots_in zero directory = []
+slots_in (suc n) directory = take 2 directory ∷ slots_in n (drop 2 directory)
+
+-- whether a slot has a mark
+abbrev pub is_marked : ℕ → List ℕ → Bool
+is_marked mark slot = slice_index slot 0 == mark
+
 -- the first of so many numbers from i on that passes
 abbrev pub first_from : (ℕ → Bool) → ℕ → ℕ → Option ℕ
 first_from p zero i = None

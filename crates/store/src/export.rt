@@ -4,15 +4,13 @@ ghost use Rattle.std.specs.List.{flat_map};
 ghost use Rattle.rows.specs.Refusals.{UnlessOut};
 ghost use Rattle.codec.specs.Seals.{sealed_bytes};
 ghost use Rattle.codec.specs.Words.{bytes_of};
-ghost use Rattle.store.specs.Export.{Appends, slot_length, file_of_slot, files_held, entry_held, entries_held, counted, numbered, header_words, header_of, exported};
-ghost use Rattle.store.specs.Log.{log_of};
-ghost use Rattle.store.specs.Putting.{files_of};
-ghost use Rattle.store.specs.Slots.{slots, items_of};
+ghost use Rattle.store.specs.Export.{Appends, file_of_slot, files_held, entry_held, entries_held, counted, numbered, header_words, header_of, exported};
+ghost use Rattle.store.specs.Memory.{slot_count, files_in, log_in};
+ghost use Rattle.store.specs.Slots.{items_of};
 
 use crate::Store;
-use crate::files::free_below;
 use crate::header::Header;
-use crate::log::bounds_of;
+use crate::memory::{FileMemory, LogMemory};
 use rows::refusal::Refusal;
 use std::alloc::Global;
 
@@ -28,8 +26,8 @@ fn push_word(out: &mut Vec<u8>, word: u64) -> Result<(), Refusal>
 fn push_words(out: &mut Vec<u8>, words: &[u64]) -> Result<(), Refusal>
     ensures { Appends result out.old.items out.new.items (bytes_of words.now) }
 {
-    for i in 0..words.len() {
-        push_word(out, words[i])?;
+    for word in words {
+        push_word(out, *word)?;
     }
     Ok(())
 }
@@ -68,78 +66,60 @@ fn push_file(out: &mut Vec<u8>, number: u64, bytes: &[u8]) -> Result<(), Refusal
 }
 
 // Appends the entry at a place; one that does not lie in the log has no bytes.
-fn push_entry(out: &mut Vec<u8>, ends: &[u64], log: &[u8], place: usize) -> Result<(), Refusal>
-    ensures { Appends result out.old.items out.new.items (counted (entry_held (record { count = 0; ends = ends.now; bytes = log.now }) place)) }
+fn push_entry(out: &mut Vec<u8>, log: LogMemory<'_>, place: usize) -> Result<(), Refusal>
+    ensures { Appends result out.old.items out.new.items (counted (entry_held (record { count = 0; ends = log.entry.ends.now; bytes = log.entry.bytes.now }) place)) }
 {
-    let (start, end) = bounds_of(ends, log, place).unwrap_or((0, 0));
-    push_counted(out, &log[start..end])
+    push_counted(out, log.entry_bytes(place).unwrap_or(&[]))
 }
 
 impl Store {
-    // How many bytes of a slot its file has.
-    fn slot_length(&self, directory: &[u64], slot: usize) -> usize
-        requires { 2 * slot + 2 ≤ length directory.now }
-        ensures { result ≡ slot_length self.now.most_rows directory.now slot }
-    {
-        let length = directory[1 + 2 * slot];
-        if length > self.slot_size() as u64 {
-            return 0;
-        }
-        length as usize
-    }
-
     // Appends the file of a slot, if it is not free.
     fn push_slot(
         &self,
         out: &mut Vec<u8>,
-        directory: &[u64],
-        files: &[u8],
+        files: FileMemory<'_>,
         slot: usize,
     ) -> Result<(), Refusal>
-        requires { slot < slots self.now.most_rows (length directory.now) (length files.now) }
-        ensures { Appends result out.old.items out.new.items (flat_map numbered (file_of_slot (files_of self.now directory.now files.now) slot)) }
+        requires { slot < slot_count self.now files }
+        ensures { Appends result out.old.items out.new.items (flat_map numbered (file_of_slot (files_in self.now files.entry) slot)) }
     {
-        let mark = directory[2 * slot];
+        let mark = files.directory[2 * slot];
         if mark == 0 {
             return Ok(());
         }
-        let start = slot * self.slot_size();
-        let end = start + self.slot_length(directory, slot);
-        push_file(out, mark - 1, &files[start..end])
+        push_file(out, mark - 1, self.slot_bytes(files, slot))
     }
-}
 
-impl Store {
     // Appends the files, in the order of their slots.
-    fn push_files(&self, out: &mut Vec<u8>, directory: &[u64], files: &[u8]) -> Result<(), Refusal>
-        ensures { Appends result out.old.items out.new.items (flat_map numbered (files_held (files_of self.now directory.now files.now))) }
+    fn push_files(&self, out: &mut Vec<u8>, files: FileMemory<'_>) -> Result<(), Refusal>
+        ensures { Appends result out.old.items out.new.items (flat_map numbered (files_held (files_in self.now files.entry))) }
     {
-        for slot in 0..self.slots(directory, files) {
-            self.push_slot(out, directory, files, slot)?;
+        for slot in 0..self.slots(files).len() {
+            self.push_slot(out, files, slot)?;
         }
         Ok(())
     }
 
     // Appends the entries, in the order of their places.
-    fn push_entries(&self, out: &mut Vec<u8>, ends: &[u64], log: &[u8]) -> Result<(), Refusal>
-        ensures { Appends result out.old.items out.new.items (flat_map counted (entries_held (log_of self.now ends.now log.now))) }
+    fn push_entries(&self, out: &mut Vec<u8>, log: LogMemory<'_>) -> Result<(), Refusal>
+        ensures { Appends result out.old.items out.new.items (flat_map counted (entries_held (log_in self.now log.entry))) }
     {
         for place in 0..self.entries as usize {
-            push_entry(out, ends, log, place)?;
+            push_entry(out, log, place)?;
         }
         Ok(())
     }
 
-    fn header(&self, directory: &[u64], files: &[u8]) -> Header
-        ensures { result ≡ header_of self.now.horizon self.now.entries (files_of self.now directory.now files.now) }
+    fn header(&self, files: FileMemory<'_>) -> Header
+        ensures { result ≡ header_of self.now.horizon self.now.entries (files_in self.now files.entry) }
     {
-        let slots = self.slots(directory, files);
+        let slots = self.slots(files).len();
         Header {
             horizon: self.horizon,
             next: self.next,
             most_rows: self.most_rows,
             slots: slots as u64,
-            files: slots as u64 - free_below(directory, slots),
+            files: (slots - self.count_free(files)) as u64,
             entries: self.entries,
         }
     }
@@ -148,17 +128,15 @@ impl Store {
     pub fn write_out(
         &self,
         heap: Global,
-        directory: &[u64],
-        files: &[u8],
-        ends: &[u64],
-        log: &[u8],
+        files: FileMemory<'_>,
+        log: LogMemory<'_>,
     ) -> Result<Vec<u8>, Refusal>
-        ensures { UnlessOut result (items_of result ≡ Ok (exported self.now.horizon (files_of self.now directory.now files.now) (log_of self.now ends.now log.now))) }
+        ensures { UnlessOut result (items_of result ≡ Ok (exported self.now.horizon (files_in self.now files.entry) (log_in self.now log.entry))) }
     {
         let mut out = Vec::new(heap);
-        push_header(&mut out, self.header(directory, files))?;
-        self.push_files(&mut out, directory, files)?;
-        self.push_entries(&mut out, ends, log)?;
+        push_header(&mut out, self.header(files))?;
+        self.push_files(&mut out, files)?;
+        self.push_entries(&mut out, log)?;
         Ok(out)
     }
 }

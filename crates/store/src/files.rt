@@ -1,10 +1,13 @@
 // The files: slots of one size in lent bytes, and a directory that says what each slot holds.
 ghost use Rattle.std.specs.Prelude.{◌≡◌, ◌+◌, ◌*◌, ◌<◌, ◌≤◌, length, Ok};
+ghost use Rattle.std.specs.List.{position};
 ghost use Rattle.rows.specs.Refusals.{UnlessOut};
-ghost use Rattle.store.specs.Slots.{numbers_below, items_of, slot_size, slots, slot_with, free_below, room_for, stored_at, stored, freed};
+ghost use Rattle.store.specs.Memory.{slot_count};
+ghost use Rattle.store.specs.Slots.{numbers_below, items_of, slot_size, slots, slots_in, is_marked, slot_with, free_below, room_for, slot_bytes, stored_at, stored, freed};
 
 use crate::Store;
 use crate::limits::NUMBER_LIMIT;
+use crate::memory::FileMemory;
 use codec::file::{Head, read_file};
 use codec::rewrite::Part;
 use rows::refusal::Refusal;
@@ -17,6 +20,12 @@ pub struct Stored {
     pub head: Head,
 }
 
+fn first_marked(slots: &[[u64; 2]], mark: u64) -> Option<usize>
+    ensures { result ≡ position (is_marked mark) slots.now }
+{
+    slots.iter().position(|[own, _]| *own == mark)
+}
+
 impl Store {
     pub(crate) fn slot_size(&self) -> usize
         ensures { result ≡ slot_size self.now.most_rows }
@@ -24,111 +33,109 @@ impl Store {
         8 * (4 + 2 * self.most_rows as usize)
     }
 
-    pub(crate) fn slots(&self, directory: &[u64], files: &[u8]) -> usize
-        ensures { result ≡ slots self.now.most_rows (length directory.now) (length files.now) }
+    // What the directory has of each slot that the memory has: its mark, and how many bytes its file has.
+    pub(crate) fn slots<'a>(&self, memory: FileMemory<'a>) -> &'a [[u64; 2]]
+        ensures slots { result.now ≡ slots_in (slot_count self.now memory.entry) memory.entry.directory.now }
+        ensures count { length result.now ≡ slot_count self.now memory.entry }
     {
-        let in_directory = directory.len() / 2;
-        in_directory.min(files.len() / self.slot_size())
+        let (slots, _) = memory.directory.as_chunks::<2>();
+        let count = slots.len().min(memory.bytes.len() / self.slot_size());
+        &slots[..count]
     }
-}
 
-// The first of so many slots with a mark.
-pub(crate) fn slot_with(directory: &[u64], slots: usize, mark: u64) -> Option<usize>
-    requires { 2 * slots ≤ length directory.now }
-    ensures { result ≡ slot_with directory.now slots mark }
-{
-    for i in 0..slots {
-        if directory[2 * i] == mark {
-            return Some(i);
-        }
+    // The first slot with a mark.
+    pub(crate) fn slot_with(&self, memory: FileMemory<'_>, mark: u64) -> Option<usize>
+        ensures { result ≡ slot_with memory.entry.directory.now (slot_count self.now memory.entry) mark }
+    {
+        first_marked(self.slots(memory), mark)
     }
-    None
-}
 
-// How many of so many slots are free.
-pub(crate) fn free_below(directory: &[u64], slots: usize) -> u64
-    requires { 2 * slots ≤ length directory.now }
-    ensures { result ≡ free_below directory.now slots }
-{
-    let mut free = 0;
-    for i in 0..slots {
-        if directory[2 * i] == 0 {
-            free += 1;
-        }
+    // How many slots are free.
+    pub(crate) fn count_free(&self, memory: FileMemory<'_>) -> usize
+        ensures { result ≡ free_below memory.entry.directory.now (slot_count self.now memory.entry) }
+    {
+        self.slots(memory)
+            .iter()
+            .filter(|[mark, _]| *mark == 0)
+            .count()
     }
-    free
-}
 
-impl Store {
+    // Where a slot begins among the file bytes.
+    pub(crate) fn slot_start(&self, memory: FileMemory<'_>, slot: usize) -> usize
+        requires { slot < slot_count self.now memory }
+        ensures start { result ≡ slot * slot_size self.now.most_rows }
+        ensures inside { result + slot_size self.now.most_rows ≤ length memory.entry.bytes.now }
+        ensures marked { 2 * slot + 2 ≤ length memory.entry.directory.now }
+    {
+        slot * self.slot_size()
+    }
+
     // How many files more there is room for.
-    pub fn room(&self, directory: &[u64], files: &[u8]) -> u64
-        ensures { result ≡ room_for self.now.next directory.now (slots self.now.most_rows (length directory.now) (length files.now)) }
+    pub fn room(&self, memory: FileMemory<'_>) -> u64
+        ensures { result ≡ room_for self.now.next memory.entry.directory.now (slot_count self.now memory.entry) }
     {
-        let free = free_below(directory, self.slots(directory, files));
+        let free = self.count_free(memory) as u64;
         free.min(NUMBER_LIMIT - self.next)
     }
 
-    // The file of a slot; none where it does not decode or bears another number.
-    fn stored_at(&self, directory: &[u64], files: &[u8], number: u32, slot: usize) -> Option<Stored>
-        requires { slot < slots self.now.most_rows (length directory.now) (length files.now) }
-        ensures { result ≡ stored_at self.now.most_rows directory.now files.now number slot }
+    // The bytes of the file in a slot; none where it says that they are more than a slot has.
+    pub(crate) fn slot_bytes<'a>(&self, memory: FileMemory<'a>, slot: usize) -> &'a [u8]
+        requires { slot < slot_count self.now memory }
+        ensures { result.now ≡ slot_bytes self.now.most_rows memory.entry.directory.now memory.entry.bytes.now slot }
     {
-        let size = self.slot_size();
-        let length = directory[1 + 2 * slot];
-        if length > size as u64 {
-            return None;
+        let start = self.slot_start(memory, slot);
+        let length = memory.directory[1 + 2 * slot];
+        if length > self.slot_size() as u64 {
+            return &[];
         }
-        let start = slot * size;
-        let end = start + length as usize;
-        let Some(head) = read_file(&files[start..end]) else {
-            return None;
-        };
+        &memory.bytes[start..start + length as usize]
+    }
+
+    // The file of a slot; none where it does not decode or bears another number.
+    fn stored_at(&self, memory: FileMemory<'_>, number: u32, slot: usize) -> Option<Stored>
+        requires { slot < slot_count self.now memory }
+        ensures { result ≡ stored_at self.now.most_rows memory.entry.directory.now memory.entry.bytes.now number slot }
+    {
+        let bytes = self.slot_bytes(memory, slot);
+        let head = read_file(bytes)?;
         if head.number != number {
             return None;
         }
-        Some(Stored {
-            part: Part {
-                start,
-                length: length as usize,
-            },
-            head,
-        })
+        let part = Part {
+            start: self.slot_start(memory, slot),
+            length: bytes.len(),
+        };
+        Some(Stored { part, head })
     }
 
     // The file under a number; none where there is none, or what is there does not decode or bears another number.
-    pub fn file(&self, directory: &[u64], files: &[u8], number: u32) -> Option<Stored>
-        ensures { result ≡ stored self.now.most_rows directory.now files.now number }
+    pub fn file(&self, memory: FileMemory<'_>, number: u32) -> Option<Stored>
+        ensures { result ≡ stored self.now.most_rows memory.entry.directory.now memory.entry.bytes.now number }
     {
-        let Some(slot) = slot_with(directory, self.slots(directory, files), number as u64 + 1)
-        else {
-            return None;
-        };
-        self.stored_at(directory, files, number, slot)
+        let slot = self.slot_with(memory, number as u64 + 1)?;
+        self.stored_at(memory, number, slot)
     }
 
-    // Every slot that has a number is free afterwards.
-    pub fn delete(&self, directory: &mut [u64], files: &[u8], number: u32)
-        ensures { directory.new ≡ freed directory.old (number + 1) (slots self.now.most_rows (length directory.old) (length files.now)) }
+    // Every slot that has a number is free afterwards. The bytes are only counted, so they need not be lent to be written.
+    pub fn delete(&self, directory: &mut [u64], bytes: &[u8], number: u32)
+        ensures { directory.new ≡ freed directory.old (number + 1) (slots self.now.most_rows (length directory.old) (length bytes.now)) }
     {
         let mark = number as u64 + 1;
-        for i in 0..self.slots(directory, files) {
-            if directory[2 * i] == mark {
-                directory[2 * i] = 0;
+        let count = self.slots(FileMemory { directory, bytes }).len();
+        // Each slot is looked at and written, and of chunks lent to be written nothing is known afterwards.
+        for slot in 0..count {
+            if directory[2 * slot] == mark {
+                directory[2 * slot] = 0;
             }
         }
     }
 
     // The numbers of the files, in the order of their slots.
-    pub fn files(&self, heap: Global, directory: &[u64], files: &[u8]) -> Result<Vec<u64>, Refusal>
-        ensures { UnlessOut result (items_of result ≡ Ok (numbers_below directory.now (slots self.now.most_rows (length directory.now) (length files.now)))) }
+    pub fn files(&self, heap: Global, memory: FileMemory<'_>) -> Result<Vec<u64>, Refusal>
+        ensures { UnlessOut result (items_of result ≡ Ok (numbers_below memory.entry.directory.now (slot_count self.now memory.entry))) }
     {
-        let mut numbers = Vec::new(heap);
-        for i in 0..self.slots(directory, files) {
-            let mark = directory[2 * i];
-            if mark > 0 {
-                numbers.push(mark - 1)?;
-            }
-        }
-        Ok(numbers)
+        let slots = self.slots(memory).iter();
+        let held = slots.map(|[mark, _]| *mark).filter(|mark| *mark > 0);
+        Ok(held.map(|mark| mark - 1).collect(heap)?)
     }
 }

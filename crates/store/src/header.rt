@@ -1,21 +1,12 @@
 // The header of a store that is written out: six numbers and their sum.
-ghost use Rattle.std.specs.Prelude.{◌≡◌, ◌+◌, ◌%◌, ◌^◌, ◌≤◌, length, sum};
+ghost use Rattle.std.specs.Prelude.{◌≡◌, ◌%◌, ◌^◌, length, if◌then◌else◌, Some, None, nat_le, sum};
 ghost use Rattle.store.specs.Export.{header_words};
-ghost use Rattle.store.specs.Import.{word_at, out_at, bounded, header_at, header_in};
+ghost use Rattle.store.specs.Import.{out_at, bounded, header_at, header_in};
 
 use crate::limits::{MOST_HORIZON, MOST_ROWS, NUMBER_LIMIT};
 use crate::unread::Unread;
+use codec::words::word_from;
 use rows::refusal::LOG_LIMIT;
-
-// The number of the eight bytes from a byte on.
-pub(crate) fn word_at(bytes: &[u8], at: usize) -> u64
-    requires { at + 8 ≤ length bytes.now }
-    ensures { result ≡ word_at at bytes.now }
-{
-    let mut word = [0; 8];
-    word.copy_from_slice(&bytes[at..at + 8]);
-    u64::from_le_bytes(word)
-}
 
 // What the header says of a store: its four numbers, how many slots it has, and how many files and entries follow.
 #[derive(Clone, Copy)]
@@ -71,30 +62,28 @@ impl Header {
         }
     }
 
-    // The numbers at the front of bytes.
-    fn at_front(bytes: &[u8]) -> Header
-        requires { 56 ≤ length bytes.now }
-        ensures { result ≡ header_at bytes.now }
+    // The numbers at the front of bytes; none where they are cut short.
+    fn at_front(bytes: &[u8]) -> Option<Header>
+        ensures { result ≡ (if nat_le 48 (length bytes.now) then Some (header_at bytes.now) else None) }
     {
-        Header {
-            horizon: word_at(bytes, 0),
-            next: word_at(bytes, 8),
-            most_rows: word_at(bytes, 16),
-            slots: word_at(bytes, 24),
-            files: word_at(bytes, 32),
-            entries: word_at(bytes, 40),
-        }
+        Some(Header {
+            horizon: word_from(bytes, 0)?,
+            next: word_from(bytes, 8)?,
+            most_rows: word_from(bytes, 16)?,
+            slots: word_from(bytes, 24)?,
+            files: word_from(bytes, 32)?,
+            entries: word_from(bytes, 40)?,
+        })
     }
 
     // The header that bytes begin with.
     pub fn read(bytes: &[u8]) -> Result<Header, Unread>
         ensures { result ≡ header_in bytes.now }
     {
-        if bytes.len() < 56 {
+        let (Some(header), Some(sum)) = (Header::at_front(bytes), word_from(bytes, 48)) else {
             return Err(Unread::At(bytes.len() as u64));
-        }
-        let header = Header::at_front(bytes);
-        if word_at(bytes, 48) != header.sum() {
+        };
+        if sum != header.sum() {
             return Err(Unread::At(48));
         }
         header.in_bounds()

@@ -1,136 +1,132 @@
 // A store read in from the bytes that it was written out as.
 ghost use Rattle.std.specs.Prelude.{◌≡◌, ◌+◌, ◌<◌, ◌≤◌, length, IfOk};
 ghost use Rattle.store.specs.Import.{file_end, file_read, files_read, entry_end, place_read, entries_read, body_read, numbers_read, read_in};
+ghost use Rattle.store.specs.Reading.{at_of};
 ghost use Rattle.store.specs.Slots.{slots};
 
 use crate::Store;
-use crate::header::{Header, word_at};
+use crate::header::Header;
+use crate::memory::{FileMemoryMut, LogMemoryMut};
+use crate::reader::Reader;
 use crate::unread::Unread;
 
-// Where the entry from a byte on ends, if so many bytes of log are enough for it.
-fn entry_end(bytes: &[u8], at: usize, left: usize) -> Result<usize, Unread>
-    requires { at ≤ length bytes.now }
-    ensures { result ≡ entry_end at left bytes.now }
+// Where an entry ends, if so many bytes of log are enough for it.
+fn entry_end(from: Reader<'_>, left: usize) -> Result<usize, Unread>
+    ensures { result ≡ entry_end from.entry.at left from.entry.bytes.now }
 {
-    if bytes.len() - at < 8 {
-        return Err(Unread::At(bytes.len() as u64));
-    }
-    let length = word_at(bytes, at);
-    if length > (bytes.len() - at - 8) as u64 {
-        return Err(Unread::At(bytes.len() as u64));
+    let Some(length) = from.word(0) else {
+        return Err(from.cut_short());
+    };
+    if length > (from.left() - 8) as u64 {
+        return Err(from.cut_short());
     }
     if length > left as u64 {
         return Err(Unread::TooSmall);
     }
-    Ok(at + 8 + length as usize)
+    Ok(from.at + 8 + length as usize)
 }
 
-// Reads an entry to a place, behind the bytes of the log that are used, and tells where it ends.
-fn read_place(
-    bytes: &[u8],
-    at: usize,
-    ends: &mut [u64],
-    log: &mut [u8],
+// Reads an entry to a place, behind the bytes of the log that are used.
+fn read_place<'a>(
+    from: Reader<'a>,
+    log: &mut LogMemoryMut<'_>,
     place: usize,
     used: usize,
-) -> Result<usize, Unread>
-    requires within { at ≤ length bytes.now }
-    requires inside { place < length ends.old }
-    requires behind { used ≤ length log.old }
-    ensures { (result, ends.new, log.new) ≡ place_read at bytes.now place used ends.old log.old }
+) -> Result<Reader<'a>, Unread>
+    requires inside { place < length log.old.ends.now }
+    requires behind { used ≤ length log.old.bytes.now }
+    ensures read { (at_of result, log.new.ends.now, log.new.bytes.now) ≡ place_read from.entry.at from.entry.bytes.now place used log.old.ends.now log.old.bytes.now }
+    ensures bytes { IfOk result (λ to. to.bytes.now ≡ from.entry.bytes.now) }
 {
-    let end = entry_end(bytes, at, log.len() - used)?;
-    let length = end - at - 8;
-    log[used..used + length].copy_from_slice(&bytes[at + 8..end]);
-    ends[place] = (used + length) as u64;
-    Ok(end)
+    let end = entry_end(from, log.bytes.len() - used)?;
+    let entry = &from.bytes[from.at + 8..end];
+    log.bytes[used..used + entry.len()].copy_from_slice(entry);
+    log.ends[place] = (used + entry.len()) as u64;
+    Ok(Reader {
+        bytes: from.bytes,
+        at: end,
+    })
 }
 
-// Reads so many entries to the first places, and tells where the last of them ends.
-fn read_entries(
-    bytes: &[u8],
-    from: usize,
-    ends: &mut [u64],
-    log: &mut [u8],
+// Reads so many entries to the first places.
+fn read_entries<'a>(
+    from: Reader<'a>,
+    log: &mut LogMemoryMut<'_>,
     count: usize,
-) -> Result<usize, Unread>
-    requires within { from ≤ length bytes.now }
-    requires inside { count ≤ length ends.old }
-    ensures { (result, ends.new, log.new) ≡ entries_read bytes.now count 0 from 0 ends.old log.old }
+) -> Result<Reader<'a>, Unread>
+    requires { count ≤ length log.old.ends.now }
+    ensures read { (at_of result, log.new.ends.now, log.new.bytes.now) ≡ entries_read from.entry.bytes.now count 0 from.entry.at 0 log.old.ends.now log.old.bytes.now }
+    ensures bytes { IfOk result (λ to. to.bytes.now ≡ from.entry.bytes.now) }
 {
-    let mut at = from;
+    let mut here = from;
     let mut used = 0;
     for place in 0..count {
-        let end = read_place(bytes, at, ends, log, place, used)?;
-        used += end - at - 8;
-        at = end;
+        let next = read_place(here, log, place, used)?;
+        used += next.at - here.at - 8;
+        here = next;
     }
-    Ok(at)
+    Ok(here)
 }
 
 impl Store {
-    // Where the file from a byte on ends.
-    fn file_end(&self, bytes: &[u8], at: usize) -> Result<usize, Unread>
-        requires { at ≤ length bytes.now }
-        ensures { result ≡ file_end self.now.most_rows at bytes.now }
+    // Where a file ends.
+    fn file_end(&self, from: Reader<'_>) -> Result<usize, Unread>
+        ensures { result ≡ file_end self.now.most_rows from.entry.at from.entry.bytes.now }
     {
-        if bytes.len() - at < 16 {
-            return Err(Unread::At(bytes.len() as u64));
+        let (Some(number), Some(length)) = (from.word(0), from.word(8)) else {
+            return Err(from.cut_short());
+        };
+        if number == u64::MAX {
+            return Err(Unread::At(from.at as u64));
         }
-        if word_at(bytes, at) == u64::MAX {
-            return Err(Unread::At(at as u64));
-        }
-        let length = word_at(bytes, at + 8);
         if length > self.slot_size() as u64 {
-            return Err(Unread::At(at as u64 + 8));
+            return Err(Unread::At(from.at as u64 + 8));
         }
-        if length > (bytes.len() - at - 16) as u64 {
-            return Err(Unread::At(bytes.len() as u64));
+        if length > (from.left() - 16) as u64 {
+            return Err(from.cut_short());
         }
-        Ok(at + 16 + length as usize)
+        Ok(from.at + 16 + length as usize)
     }
 
-    // Reads a file into a slot, and tells where it ends.
-    fn read_slot(
+    // Reads a file into a slot.
+    fn read_slot<'a>(
         &self,
-        bytes: &[u8],
-        at: usize,
-        directory: &mut [u64],
-        files: &mut [u8],
+        from: Reader<'a>,
+        files: &mut FileMemoryMut<'_>,
         slot: usize,
-    ) -> Result<usize, Unread>
-        requires within { at ≤ length bytes.now }
-        requires inside { slot < slots self.now.most_rows (length directory.old) (length files.old) }
-        ensures { (result, directory.new, files.new) ≡ file_read self.now.most_rows at bytes.now slot directory.old files.old }
+    ) -> Result<Reader<'a>, Unread>
+        requires { slot < slots self.now.most_rows (length files.old.directory.now) (length files.old.bytes.now) }
+        ensures read { (at_of result, files.new.directory.now, files.new.bytes.now) ≡ file_read self.now.most_rows from.entry.at from.entry.bytes.now slot files.old.directory.now files.old.bytes.now }
+        ensures bytes { IfOk result (λ to. to.bytes.now ≡ from.entry.bytes.now) }
     {
-        let end = self.file_end(bytes, at)?;
-        let length = end - at - 16;
-        let start = slot * self.slot_size();
-        directory[2 * slot] = word_at(bytes, at) + 1;
-        directory[1 + 2 * slot] = length as u64;
-        files[start..start + length].copy_from_slice(&bytes[at + 16..end]);
-        Ok(end)
+        let end = self.file_end(from)?;
+        let file = &from.bytes[from.at + 16..end];
+        let start = self.slot_start(files.view(), slot);
+        files.directory[2 * slot] = from.word(0).unwrap() + 1;
+        files.directory[1 + 2 * slot] = file.len() as u64;
+        files.bytes[start..start + file.len()].copy_from_slice(file);
+        Ok(Reader {
+            bytes: from.bytes,
+            at: end,
+        })
     }
 
-    // Reads so many files into the first slots, and tells where the last of them ends.
-    fn read_files(
+    // Reads so many files into the first slots.
+    fn read_files<'a>(
         &self,
-        bytes: &[u8],
-        from: usize,
-        directory: &mut [u64],
-        files: &mut [u8],
+        from: Reader<'a>,
+        files: &mut FileMemoryMut<'_>,
         count: usize,
-    ) -> Result<usize, Unread>
-        requires within { from ≤ length bytes.now }
-        requires inside { count ≤ slots self.now.most_rows (length directory.old) (length files.old) }
-        ensures read { (result, directory.new, files.new) ≡ files_read self.now.most_rows bytes.now count 0 from directory.old files.old }
-        ensures end { IfOk result (λ at. at ≤ length bytes.now) }
+    ) -> Result<Reader<'a>, Unread>
+        requires { count ≤ slots self.now.most_rows (length files.old.directory.now) (length files.old.bytes.now) }
+        ensures read { (at_of result, files.new.directory.now, files.new.bytes.now) ≡ files_read self.now.most_rows from.entry.bytes.now count 0 from.entry.at files.old.directory.now files.old.bytes.now }
+        ensures bytes { IfOk result (λ to. to.bytes.now ≡ from.entry.bytes.now) }
     {
-        let mut at = from;
+        let mut here = from;
         for slot in 0..count {
-            at = self.read_slot(bytes, at, directory, files, slot)?;
+            here = self.read_slot(here, files, slot)?;
         }
-        Ok(at)
+        Ok(here)
     }
 
     // Reads files and entries behind the header into memory that is large enough for them.
@@ -138,21 +134,19 @@ impl Store {
         &self,
         bytes: &[u8],
         held: usize,
-        directory: &mut [u64],
-        files: &mut [u8],
-        ends: &mut [u64],
-        log: &mut [u8],
+        files: &mut FileMemoryMut<'_>,
+        log: &mut LogMemoryMut<'_>,
     ) -> Result<(), Unread>
         requires header { 56 ≤ length bytes.now }
-        requires slots { held ≤ slots self.now.most_rows (length directory.old) (length files.old) }
-        requires places { self.now.entries ≤ length ends.old }
-        ensures { (result, directory.new, files.new, ends.new, log.new) ≡ body_read self.now.most_rows bytes.now held self.now.entries directory.old files.old ends.old log.old }
+        requires slots { held ≤ slots self.now.most_rows (length files.old.directory.now) (length files.old.bytes.now) }
+        requires places { self.now.entries ≤ length log.old.ends.now }
+        ensures { (result, files.new.directory.now, files.new.bytes.now, log.new.ends.now, log.new.bytes.now) ≡ body_read self.now.most_rows bytes.now held self.now.entries files.old.directory.now files.old.bytes.now log.old.ends.now log.old.bytes.now }
     {
-        directory.fill(0);
-        let behind = self.read_files(bytes, 56, directory, files, held)?;
-        let end = read_entries(bytes, behind, ends, log, self.entries as usize)?;
-        if end < bytes.len() {
-            return Err(Unread::At(end as u64));
+        files.directory.fill(0);
+        let behind = self.read_files(Reader { bytes, at: 56 }, files, held)?;
+        let end = read_entries(behind, log, self.entries as usize)?;
+        if end.at < bytes.len() {
+            return Err(Unread::At(end.at as u64));
         }
         Ok(())
     }
@@ -160,12 +154,10 @@ impl Store {
     // The store that bytes were written out of, in memory that is large enough for it. Where there is an error, the memory holds what was read so far.
     pub fn read_in(
         bytes: &[u8],
-        directory: &mut [u64],
-        files: &mut [u8],
-        ends: &mut [u64],
-        log: &mut [u8],
+        files: &mut FileMemoryMut<'_>,
+        log: &mut LogMemoryMut<'_>,
     ) -> Result<Store, Unread>
-        ensures { (numbers_read result, directory.new, files.new, ends.new, log.new) ≡ read_in bytes.now directory.old files.old ends.old log.old }
+        ensures { (numbers_read result, files.new.directory.now, files.new.bytes.now, log.new.ends.now, log.new.bytes.now) ≡ read_in bytes.now files.old.directory.now files.old.bytes.now log.old.ends.now log.old.bytes.now }
     {
         let header = Header::read(bytes)?;
         let store = Store {
@@ -174,13 +166,13 @@ impl Store {
             entries: header.entries,
             most_rows: header.most_rows,
         };
-        if header.slots > store.slots(directory, files) as u64 {
+        if header.slots > store.slots(files.view()).len() as u64 {
             return Err(Unread::TooSmall);
         }
-        if header.entries > ends.len() as u64 {
+        if header.entries > log.ends.len() as u64 {
             return Err(Unread::TooSmall);
         }
-        store.read_body(bytes, header.files as usize, directory, files, ends, log)?;
+        store.read_body(bytes, header.files as usize, files, log)?;
         Ok(store)
     }
 }

@@ -10,8 +10,10 @@ mod import;
 pub mod laws;
 mod limits;
 pub mod log;
+pub mod memory;
 pub mod opening;
 mod putting;
+mod reader;
 pub mod unput;
 pub mod unread;
 

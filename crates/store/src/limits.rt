@@ -5,7 +5,7 @@ use codec::file;
 pub(crate) const MOST_HORIZON: u64 = 4096;
 
 // File numbers stay below 2^32.
-pub(crate) const NUMBER_LIMIT: u64 = 4294967296;
+pub(crate) const NUMBER_LIMIT: u64 = 1 << 32;
 
 // The most rows that a file may have in any store.
 pub(crate) const MOST_ROWS: u64 = file::MOST_ROWS as u64;

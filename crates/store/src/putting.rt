@@ -1,11 +1,11 @@
 // Putting files: into the first free slot, under the next number.
 ghost use Rattle.std.specs.Prelude.{◌≡◌, ◌+◌, ◌*◌, ◌<◌, ◌≤◌, length, slice_set};
-ghost use Rattle.store.specs.Slots.{slots};
-ghost use Rattle.store.specs.Putting.{next_slot, files_of, put_rows, put_rewritten, SameButNext};
+ghost use Rattle.store.specs.Memory.{slot_count, files_in_mut};
+ghost use Rattle.store.specs.Putting.{next_slot, put_rows, put_rewritten, SameButNext};
 
 use crate::Store;
-use crate::files::slot_with;
 use crate::limits::NUMBER_LIMIT;
+use crate::memory::{FileMemory, FileMemoryMut};
 use crate::unput::Unput;
 use codec::entry::Added;
 use codec::rewrite::{Part, Rewrite, rewrite_files};
@@ -14,18 +14,17 @@ use rows::refusal::Refusal;
 
 impl Store {
     // The slot that the next file goes into.
-    fn next_slot(&self, directory: &[u64], files: &[u8]) -> Result<usize, Unput>
-        ensures { result ≡ next_slot self.now.next directory.now (slots self.now.most_rows (length directory.now) (length files.now)) }
+    fn next_slot(&self, memory: FileMemory<'_>) -> Result<usize, Unput>
+        ensures { result ≡ next_slot self.now.next memory.entry.directory.now (slot_count self.now memory.entry) }
     {
-        let slots = self.slots(directory, files);
         if self.next >= NUMBER_LIMIT {
-            return Err(Unput::Refused(Refusal::NoRoom(self.room(directory, files))));
+            return Err(Unput::Refused(Refusal::NoRoom(self.room(memory))));
         }
-        if let Some(_) = slot_with(directory, slots, self.next + 1) {
+        if self.slot_with(memory, self.next + 1).is_some() {
             return Err(Unput::NumberTaken);
         }
-        let Some(slot) = slot_with(directory, slots, 0) else {
-            return Err(Unput::Refused(Refusal::NoRoom(self.room(directory, files))));
+        let Some(slot) = self.slot_with(memory, 0) else {
+            return Err(Unput::Refused(Refusal::NoRoom(self.room(memory))));
         };
         Ok(slot)
     }
@@ -52,46 +51,43 @@ impl Store {
     // Puts a file of lent rows, key and amount of each. Where it cannot be put, nothing changes.
     pub fn put_rows(
         &mut self,
-        directory: &mut [u64],
-        files: &mut [u8],
+        memory: &mut FileMemoryMut<'_>,
         began: u64,
         lent: &[u64],
     ) -> Result<Added, Unput>
-        ensures put { (result, files_of self.new directory.new files.new) ≡ put_rows began lent.now (files_of self.old directory.old files.old) }
+        ensures put { (result, files_in_mut self.new memory.new) ≡ put_rows began lent.now (files_in_mut self.old memory.old) }
         ensures same { SameButNext self.old self.new }
     {
-        let slot = self.next_slot(directory, files)?;
-        let size = self.slot_size();
-        let start = slot * size;
-        let end = start + size;
-        let Some(written) = write_file(self.next as u32, began, lent, &mut files[start..end]) else {
+        let slot = self.next_slot(memory.view())?;
+        let start = self.slot_start(memory.view(), slot);
+        let out = &mut memory.bytes[start..start + self.slot_size()];
+        let Some(written) = write_file(self.next as u32, began, lent, out) else {
             return Err(Unput::OutOfBounds);
         };
-        Ok(self.fill_slot(directory, slot, written))
+        Ok(self.fill_slot(memory.directory, slot, written))
     }
 
     // Puts a file of the rows of others that lie in the same file bytes. Where it cannot be put, nothing changes.
     pub fn put_rewritten(
         &mut self,
-        directory: &mut [u64],
-        files: &mut [u8],
+        memory: &mut FileMemoryMut<'_>,
         began: u64,
         sources: &[Part],
         rewrite: Rewrite,
     ) -> Result<Added, Unput>
-        ensures put { (result, files_of self.new directory.new files.new) ≡ put_rewritten began sources.now rewrite (files_of self.old directory.old files.old) }
+        ensures put { (result, files_in_mut self.new memory.new) ≡ put_rewritten began sources.now rewrite (files_in_mut self.old memory.old) }
         ensures same { SameButNext self.old self.new }
     {
-        let slot = self.next_slot(directory, files)?;
-        let size = self.slot_size();
+        let slot = self.next_slot(memory.view())?;
         let target = Part {
-            start: slot * size,
-            length: size,
+            start: self.slot_start(memory.view(), slot),
+            length: self.slot_size(),
         };
-        let Some(written) = rewrite_files(files, sources, rewrite, target, self.next as u32, began)
+        let number = self.next as u32;
+        let Some(written) = rewrite_files(memory.bytes, sources, rewrite, target, number, began)
         else {
             return Err(Unput::OutOfBounds);
         };
-        Ok(self.fill_slot(directory, slot, written))
+        Ok(self.fill_slot(memory.directory, slot, written))
     }
 }

@@ -1,10 +1,10 @@
-use Rattle.std.proofs.Common.{◌≡◌, ◌-◌, ◌≤◌, length}
+use Rattle.std.proofs.Common.{◌≡◌, ◌-◌, length}
 use Rattle.store.specs.Import.{files_read}
 use Rattle.store.proofs.Store.read_files.Given as goal
 
 abbrev pub invariant-loop-slot : goal.invariant-loop-slot
 invariant-loop-slot l =
-    (files_read l.self.most_rows l.bytes (l.count - l.slot) l.slot l.at l.directory l.files ≡ files_read l.self.most_rows l.bytes l.count 0 l.initial.at l.initial.directory l.initial.files)
-    × (l.at ≤ length l.bytes)
-    × (length l.directory ≡ length l.initial.directory)
-    × (length l.files ≡ length l.initial.files)
+    (files_read l.self.most_rows l.fn.from.bytes.now (l.count - l.slot) l.slot l.here.at l.files.directory.now l.files.bytes.now ≡ files_read l.self.most_rows l.fn.from.bytes.now l.count 0 l.fn.from.at l.initial.files.directory.now l.initial.files.bytes.now)
+    × (l.here.bytes.now ≡ l.fn.from.bytes.now)
+    × (length l.files.directory.now ≡ length l.initial.files.directory.now)
+    × (length l.files.bytes.now ≡ length l.initial.files.bytes.now)

@@ -1,12 +1,13 @@
 use Rattle.std.proofs.Common.{Ok, Err, arith}
 use Rattle.std.proofs.lemmas.Result.{err_from_is_err_and}
 use Rattle.store.proofs.ImportLaws.{header_bounds, in_no_header, in_few_slots, in_few_places, in_body}
+use Rattle.store.proofs.Views.{slots_told}
 use Rattle.store.proofs.Store.read_in.Goals as goal
 
 pub returns-in_err-header : goal.returns-in_err-header
 returns-in_err-header c =
     let p = err_from_is_err_and c.from_residual.result c.from_residual.ensures.1 in
-    rw (p.1, p.2) (in_no_header c.args.bytes.now c.args.directory.now c.args.files.now c.args.ends.now c.args.log.now _ c.in_err-header.ensures)
+    rw (p.1, p.2) (in_no_header c.args.bytes.now c.args.files.now.directory.now c.args.files.now.bytes.now c.args.log.now.ends.now c.args.log.now.bytes.now _ c.in_err-header.ensures)
 
 pub invariant_of-store : goal.invariant_of-store
 invariant_of-store c =
@@ -14,20 +15,20 @@ invariant_of-store c =
     record { near = b.1; numbered = b.2; logged = b.6; some = b.3; few = b.4 }
 
 pub returns-then-header-slots : goal.returns-then-header-slots
-returns-then-header-slots c = in_few_slots c.args.bytes.now c.args.directory.now c.args.files.now c.args.ends.now c.args.log.now c.in_ok-header.header c.slots.result c.in_ok-header.ensures c.slots.ensures (omega arith)
+returns-then-header-slots c = in_few_slots c.args.bytes.now c.args.files.now.directory.now c.args.files.now.bytes.now c.args.log.now.ends.now c.args.log.now.bytes.now c.in_ok-header.header _ c.in_ok-header.ensures (slots_told c.in_ok-header.header.most_rows c.view.result _ _ _ c.slots.ensures.count c.view.ensures.directory c.view.ensures.bytes) (omega arith)
 
-pub returns-then-header-ends : goal.returns-then-header-ends
-returns-then-header-ends c = in_few_places c.args.bytes.now c.args.directory.now c.args.files.now c.args.ends.now c.args.log.now c.in_ok-header.header c.slots.result c.in_ok-header.ensures c.slots.ensures (omega arith) (omega arith)
+pub returns-then-header-log : goal.returns-then-header-log
+returns-then-header-log c = in_few_places c.args.bytes.now c.args.files.now.directory.now c.args.files.now.bytes.now c.args.log.now.ends.now c.args.log.now.bytes.now c.in_ok-header.header _ c.in_ok-header.ensures (slots_told c.in_ok-header.header.most_rows c.view.result _ _ _ c.slots.ensures.count c.view.ensures.directory c.view.ensures.bytes) (omega arith) (omega arith)
 
 pub read_body-requires : goal.read_body-requires
 read_body-requires c =
     let b = header_bounds c.args.bytes.now c.in_ok-header.header c.in_ok-header.ensures in
-    record { header = b.0; slots = omega (arith, b.5, c.slots.ensures); places = omega arith }
+    record { header = b.0; slots = omega (arith, b.5, (slots_told c.in_ok-header.header.most_rows c.view.result _ _ _ c.slots.ensures.count c.view.ensures.directory c.view.ensures.bytes)); places = omega arith }
 
 pub returns-in_err-read_body : goal.returns-in_err-read_body
 returns-in_err-read_body c =
     let p = err_from_is_err_and c.from_residual-in_err-read_body.result c.from_residual-in_err-read_body.ensures.1 in
-    rw (p.1, p.2) (in_body c.args.bytes.now c.args.directory.now c.args.files.now c.args.ends.now c.args.log.now c.in_ok-header.header c.slots.result (Err _, c.read_body.new.directory, c.read_body.new.files, c.read_body.new.ends, c.read_body.new.log) c.in_ok-header.ensures c.slots.ensures (omega arith) (omega arith) c.in_err-read_body.ensures)
+    rw (p.1, p.2) (in_body c.args.bytes.now c.args.files.now.directory.now c.args.files.now.bytes.now c.args.log.now.ends.now c.args.log.now.bytes.now c.in_ok-header.header _ (Err _, c.read_body.new.files.directory.now, c.read_body.new.files.bytes.now, c.read_body.new.log.ends.now, c.read_body.new.log.bytes.now) c.in_ok-header.ensures (slots_told c.in_ok-header.header.most_rows c.view.result _ _ _ c.slots.ensures.count c.view.ensures.directory c.view.ensures.bytes) (omega arith) (omega arith) c.in_err-read_body.ensures)
 
 pub returns : goal.returns
-returns c = in_body c.args.bytes.now c.args.directory.now c.args.files.now c.args.ends.now c.args.log.now c.in_ok-header.header c.slots.result (Ok tt, c.read_body.new.directory, c.read_body.new.files, c.read_body.new.ends, c.read_body.new.log) c.in_ok-header.ensures c.slots.ensures (omega arith) (omega arith) c.in_ok-read_body.ensures
+returns c = in_body c.args.bytes.now c.args.files.now.directory.now c.args.files.now.bytes.now c.args.log.now.ends.now c.args.log.now.bytes.now c.in_ok-header.header _ (Ok tt, c.read_body.new.files.directory.now, c.read_body.new.files.bytes.now, c.read_body.new.log.ends.now, c.read_body.new.log.bytes.now) c.in_ok-header.ensures (slots_told c.in_ok-header.header.most_rows c.view.result _ _ _ c.slots.ensures.count c.view.ensures.directory c.view.ensures.bytes) (omega arith) (omega arith) c.in_ok-read_body.ensures

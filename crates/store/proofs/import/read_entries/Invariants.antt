@@ -4,8 +4,8 @@ use Rattle.store.proofs.import.read_entries.Given as goal
 
 abbrev pub invariant-loop-place : goal.invariant-loop-place
 invariant-loop-place l =
-    (entries_read l.bytes (l.count - l.place) l.place l.at l.used l.ends l.log ≡ entries_read l.bytes l.count 0 l.initial.at 0 l.initial.ends l.initial.log)
-    × (l.at ≤ length l.bytes)
-    × (l.used ≤ length l.log)
-    × (length l.ends ≡ length l.initial.ends)
-    × (length l.log ≡ length l.initial.log)
+    (entries_read l.fn.from.bytes.now (l.count - l.place) l.place l.here.at l.used l.log.ends.now l.log.bytes.now ≡ entries_read l.fn.from.bytes.now l.count 0 l.fn.from.at 0 l.initial.log.ends.now l.initial.log.bytes.now)
+    × (l.here.bytes.now ≡ l.fn.from.bytes.now)
+    × (l.used ≤ length l.log.bytes.now)
+    × (length l.log.ends.now ≡ length l.initial.log.ends.now)
+    × (length l.log.bytes.now ≡ length l.initial.log.bytes.now)
