@@ -9,6 +9,7 @@ use std::alloc::{AllocError, Global};
 use std::process::Abort;
 use std::test::Fail;
 use store::Store;
+use store::memory::{FileMemory, FileMemoryMut, LogMemory, LogMemoryMut};
 use store::unput::Unput;
 use store::unread::Unread;
 
@@ -42,15 +43,59 @@ fn front(bytes: &[u8], count: usize) -> &[u8] {
     &bytes[..count]
 }
 
+// The memory of files, lent to be read.
+fn files_in<'a>(directory: &'a [u64], bytes: &'a [u8]) -> FileMemory<'a> {
+    FileMemory { directory, bytes }
+}
+
+// The memory of entries, lent to be read.
+fn log_in<'a>(ends: &'a [u64], bytes: &'a [u8]) -> LogMemory<'a> {
+    LogMemory { ends, bytes }
+}
+
+// Puts a file of lent rows, whose writer began at version 7.
+fn put_rows(
+    store: &mut Store,
+    directory: &mut [u64],
+    bytes: &mut [u8],
+    lent: &[u64],
+) -> Result<Added, Unput> {
+    store.put_rows(&mut FileMemoryMut { directory, bytes }, 7, lent)
+}
+
+// Puts the rows of the first file anew, whose writer began at version 8.
+fn put_rewritten(
+    store: &mut Store,
+    directory: &mut [u64],
+    bytes: &mut [u8],
+    rewrite: Rewrite,
+) -> Result<Added, Unput> {
+    store.put_rewritten(
+        &mut FileMemoryMut { directory, bytes },
+        8,
+        &[FIRST],
+        rewrite,
+    )
+}
+
+fn put_entry(
+    store: &mut Store,
+    ends: &mut [u64],
+    bytes: &mut [u8],
+    entry: &Entry,
+) -> Result<u64, Unput> {
+    store.put_entry(&mut LogMemoryMut { ends, bytes }, entry)
+}
+
 // A store with horizon 8 that files of one row were put into, under the numbers 0 and 1. A slot has 8 * (4 + 2 * 1) = 48 bytes.
 fn two_files(rt: &impl Abort, directory: &mut [u64], files: &mut [u8]) -> Result<Store, Fail> {
     let mut store = Store::open(directory, 8, 1)?;
     assert_eq!(rt;
-        store.put_rows(directory, files, 7, &[1, 5]),
+        put_rows(&mut store, directory, files, &[1, 5]),
         added(0, span(1, 1))
     );
     assert_eq!(rt;
-        store.put_rows(directory, files, 7, &[2, 6]),
+        put_rows(&mut store, directory, files, &[2, 6]),
         added(1, span(2, 2))
     );
     Ok(store)
@@ -61,19 +106,19 @@ fn slots_fill_to_the_last(rt: HostRuntime) -> Result<(), Fail> {
     let mut directory = [9; 4];
     let mut files = [0xaa; 96];
     let mut store = Store::open(&mut directory, 8, 1)?;
-    assert_eq!(rt; store.room(&directory, &files), 2);
+    assert_eq!(rt; store.room(files_in(&directory, &files)), 2);
     assert_eq!(rt;
-        store.put_rows(&mut directory, &mut files, 7, &[1, 5]),
+        put_rows(&mut store, &mut directory, &mut files, &[1, 5]),
         added(0, span(1, 1))
     );
-    assert_eq!(rt; store.room(&directory, &files), 1);
+    assert_eq!(rt; store.room(files_in(&directory, &files)), 1);
     assert_eq!(rt;
-        store.put_rows(&mut directory, &mut files, 7, &[2, 6]),
+        put_rows(&mut store, &mut directory, &mut files, &[2, 6]),
         added(1, span(2, 2))
     );
-    assert_eq!(rt; store.room(&directory, &files), 0);
+    assert_eq!(rt; store.room(files_in(&directory, &files)), 0);
     assert_eq!(rt;
-        store.put_rows(&mut directory, &mut files, 7, &[3, 7]),
+        put_rows(&mut store, &mut directory, &mut files, &[3, 7]),
         Err(no_room(0))
     );
     assert_eq!(rt; store.next(), 2);
@@ -86,15 +131,25 @@ fn a_deleted_number_never_comes_back(rt: HostRuntime) -> Result<(), Fail> {
     let mut files = [0xaa; 96];
     let mut store = two_files(&rt, &mut directory, &mut files)?;
     store.delete(&mut directory, &files, 0);
-    assert!(rt; store.file(&directory, &files, 0).is_none());
-    assert_eq!(rt; store.room(&directory, &files), 1);
-    assert!(rt; store.files(rt.alloc(), &directory, &files)?.as_slice() == [1].as_slice());
+    assert!(rt; store.file(files_in(&directory, &files), 0).is_none());
+    assert_eq!(rt; store.room(files_in(&directory, &files)), 1);
+    assert!(rt;
+        store
+            .files(rt.alloc(), files_in(&directory, &files))?
+            .as_slice()
+            == [1].as_slice()
+    );
     assert_eq!(rt;
-        store.put_rows(&mut directory, &mut files, 7, &[3, 7]),
+        put_rows(&mut store, &mut directory, &mut files, &[3, 7]),
         added(2, span(3, 3))
     );
     assert!(rt; &directory[..] == [3, 48, 2, 48].as_slice());
-    assert!(rt; store.files(rt.alloc(), &directory, &files)?.as_slice() == [2, 1].as_slice());
+    assert!(rt;
+        store
+            .files(rt.alloc(), files_in(&directory, &files))?
+            .as_slice()
+            == [2, 1].as_slice()
+    );
     Ok(())
 }
 
@@ -106,7 +161,7 @@ fn the_newest_file_deleted_leaves_its_number_behind(rt: HostRuntime) -> Result<(
     store.delete(&mut directory, &files, 1);
     store.delete(&mut directory, &files, 5);
     assert_eq!(rt;
-        store.put_rows(&mut directory, &mut files, 7, &[3, 7]),
+        put_rows(&mut store, &mut directory, &mut files, &[3, 7]),
         added(2, span(3, 3))
     );
     assert!(rt; &directory[..] == [1, 48, 3, 48].as_slice());
@@ -118,7 +173,7 @@ fn a_file_is_found_by_its_number(rt: HostRuntime) -> Result<(), Fail> {
     let mut directory = [9; 4];
     let mut files = [0xaa; 96];
     let store = two_files(&rt, &mut directory, &mut files)?;
-    let Some(found) = store.file(&directory, &files, 1) else {
+    let Some(found) = store.file(files_in(&directory, &files), 1) else {
         return Err(Fail::new("no file"));
     };
     assert_eq!(rt;
@@ -136,9 +191,9 @@ fn a_file_is_found_by_its_number(rt: HostRuntime) -> Result<(), Fail> {
             count: 1,
         }
     );
-    assert!(rt; store.file(&directory, &files, 0).is_some());
-    assert!(rt; store.file(&directory, &files, 2).is_none());
-    assert!(rt; store.file(&directory, &files, u32::MAX).is_none());
+    assert!(rt; store.file(files_in(&directory, &files), 0).is_some());
+    assert!(rt; store.file(files_in(&directory, &files), 2).is_none());
+    assert!(rt; store.file(files_in(&directory, &files), u32::MAX).is_none());
     Ok(())
 }
 
@@ -147,14 +202,14 @@ fn numbers_end_below_2_to_the_32(rt: HostRuntime) -> Result<(), Fail> {
     let mut directory = [0; 4];
     let mut files = [0xaa; 96];
     let mut store = Store::reopen(8, 4294967295, 0, 1)?;
-    assert_eq!(rt; store.room(&directory, &files), 1);
+    assert_eq!(rt; store.room(files_in(&directory, &files)), 1);
     assert_eq!(rt;
-        store.put_rows(&mut directory, &mut files, 7, &[1, 5]),
+        put_rows(&mut store, &mut directory, &mut files, &[1, 5]),
         added(4294967295, span(1, 1))
     );
-    assert_eq!(rt; store.room(&directory, &files), 0);
+    assert_eq!(rt; store.room(files_in(&directory, &files)), 0);
     assert_eq!(rt;
-        store.put_rows(&mut directory, &mut files, 7, &[2, 6]),
+        put_rows(&mut store, &mut directory, &mut files, &[2, 6]),
         Err(no_room(0))
     );
     Ok(())
@@ -164,7 +219,7 @@ fn numbers_end_below_2_to_the_32(rt: HostRuntime) -> Result<(), Fail> {
 fn one_file(rt: &impl Abort, directory: &mut [u64], files: &mut [u8]) -> Result<Store, Fail> {
     let mut store = Store::open(directory, 8, 2)?;
     assert_eq!(rt;
-        store.put_rows(directory, files, 7, &[1, 5, 70000, 1000000]),
+        put_rows(&mut store, directory, files, &[1, 5, 70000, 1000000]),
         added(0, span(1, 70000))
     );
     Ok(store)
@@ -182,14 +237,14 @@ fn a_file_is_written_anew_without_its_erased_rows(rt: HostRuntime) -> Result<(),
     let mut store = one_file(&rt, &mut directory, &mut files)?;
     let erase = Rewrite::Outside(span(0, 1));
     assert_eq!(rt;
-        store.put_rewritten(&mut directory, &mut files, 8, &[FIRST], erase),
+        put_rewritten(&mut store, &mut directory, &mut files, erase),
         added(1, span(70000, 70000))
     );
     assert!(rt; &directory[..] == [1, 64, 2, 48].as_slice());
     let rest = bytes_of(rt.alloc(), &[1, 8, 1, 70000, 1000000, 1070010])?;
     assert!(rt; &files[64..112] == rest.as_slice());
-    assert!(rt; store.file(&directory, &files, 0).is_some());
-    assert!(rt; store.file(&directory, &files, 1).is_some());
+    assert!(rt; store.file(files_in(&directory, &files), 0).is_some());
+    assert!(rt; store.file(files_in(&directory, &files), 1).is_some());
     Ok(())
 }
 
@@ -201,7 +256,7 @@ fn a_file_that_would_have_no_rows_is_not_put(rt: HostRuntime) -> Result<(), Fail
     let before = files;
     let erase = Rewrite::Outside(span(0, 70000));
     assert_eq!(rt;
-        store.put_rewritten(&mut directory, &mut files, 8, &[FIRST], erase),
+        put_rewritten(&mut store, &mut directory, &mut files, erase),
         Err(Unput::OutOfBounds)
     );
     assert!(rt; &directory[..] == [1, 64, 0, 0].as_slice());
@@ -217,7 +272,7 @@ fn more_rows_than_a_slot_has_room_for_change_nothing(rt: HostRuntime) -> Result<
     let before = files;
     let mut store = Store::open(&mut directory, 8, 1)?;
     assert_eq!(rt;
-        store.put_rows(&mut directory, &mut files, 7, &[1, 5, 2, 6]),
+        put_rows(&mut store, &mut directory, &mut files, &[1, 5, 2, 6]),
         Err(Unput::OutOfBounds)
     );
     assert!(rt; &directory[..] == [0, 0, 0, 0].as_slice());
@@ -232,7 +287,7 @@ fn a_taken_number_is_not_put_again(rt: HostRuntime) -> Result<(), Fail> {
     let mut files = [0xaa; 96];
     let mut store = Store::reopen(8, 1, 0, 1)?;
     assert_eq!(rt;
-        store.put_rows(&mut directory, &mut files, 7, &[1, 5]),
+        put_rows(&mut store, &mut directory, &mut files, &[1, 5]),
         Err(Unput::NumberTaken)
     );
     assert!(rt; &directory[..] == [2, 48, 0, 0].as_slice());
@@ -262,8 +317,14 @@ fn two_entries(
     log: &mut [u8],
 ) -> Result<Store, Fail> {
     let mut store = Store::open(&mut [], 8, 1)?;
-    assert_eq!(rt; store.put_entry(ends, log, &insert(heap, 0, 3)), Ok(1));
-    assert_eq!(rt; store.put_entry(ends, log, &insert(heap, 1, 4)), Ok(2));
+    assert_eq!(rt;
+        put_entry(&mut store, ends, log, &insert(heap, 0, 3)),
+        Ok(1)
+    );
+    assert_eq!(rt;
+        put_entry(&mut store, ends, log, &insert(heap, 1, 4)),
+        Ok(2)
+    );
     Ok(store)
 }
 
@@ -275,7 +336,7 @@ fn writer_at(
     log: &[u8],
     place: u64,
 ) -> Result<Option<u8>, Refusal> {
-    let Some(entry) = store.entry(heap, ends, log, place)? else {
+    let Some(entry) = store.entry(heap, log_in(ends, log), place)? else {
         return Ok(None);
     };
     Ok(Some(entry.writer))
@@ -306,7 +367,7 @@ fn is_not_put(
     why: Unput,
 ) {
     let count = store.entries();
-    assert_eq!(rt; store.put_entry(ends, log, entry), Err(why));
+    assert_eq!(rt; put_entry(&mut store, ends, log, entry), Err(why));
     assert_eq!(rt; store.entries(), count);
 }
 
@@ -361,7 +422,7 @@ fn a_log_without_room_takes_no_entry(rt: HostRuntime) -> Result<(), Fail> {
     is_not_put(&rt, store, &mut [88], &mut log, &third, no_room(0));
     assert!(rt; &ends[..] == [88, 176, 0].as_slice());
     assert!(rt; &log[..] == &before[..]);
-    assert_eq!(rt; store.put_entry(&mut ends, &mut log, &third), Ok(3));
+    assert_eq!(rt; put_entry(&mut store, &mut ends, &mut log, &third), Ok(3));
     Ok(())
 }
 
@@ -371,19 +432,37 @@ fn slices_that_are_too_short_have_no_slots(rt: HostRuntime) -> Result<(), Fail> 
     let mut directory = [9; 4];
     let mut files = [0xaa; 96];
     let store = two_files(&rt, &mut directory, &mut files)?;
-    assert!(rt; store.file(&[], &files, 0).is_none());
-    assert!(rt; store.file(&directory[..1], &files, 0).is_none());
-    assert!(rt; store.file(&directory, &[], 0).is_none());
-    assert!(rt; store.file(&directory, front(&files, 95), 0).is_some());
-    assert!(rt; store.file(&directory, front(&files, 95), 1).is_none());
-    assert!(rt; store.files(heap, &[], &files)?.as_slice() == [].as_slice());
-    assert!(rt; store.files(heap, &directory[..3], &files)?.as_slice() == [0].as_slice());
-    assert!(rt; store.files(heap, &directory, front(&files, 95))?.as_slice() == [0].as_slice());
-    assert_eq!(rt; store.room(&[], &files), 0);
-    assert_eq!(rt; store.room(&[0], &files), 0);
-    assert_eq!(rt; store.room(&[0, 0], &files), 1);
-    assert_eq!(rt; store.room(&[0, 0, 0, 0], front(&files, 95)), 1);
-    assert_eq!(rt; store.room(&[0, 0], &[]), 0);
+    assert!(rt; store.file(files_in(&[], &files), 0).is_none());
+    assert!(rt; store.file(files_in(&directory[..1], &files), 0).is_none());
+    assert!(rt; store.file(files_in(&directory, &[]), 0).is_none());
+    assert!(rt;
+        store
+            .file(files_in(&directory, front(&files, 95)), 0)
+            .is_some()
+    );
+    assert!(rt;
+        store
+            .file(files_in(&directory, front(&files, 95)), 1)
+            .is_none()
+    );
+    assert!(rt; store.files(heap, files_in(&[], &files))?.as_slice() == [].as_slice());
+    assert!(rt;
+        store
+            .files(heap, files_in(&directory[..3], &files))?
+            .as_slice()
+            == [0].as_slice()
+    );
+    assert!(rt;
+        store
+            .files(heap, files_in(&directory, front(&files, 95)))?
+            .as_slice()
+            == [0].as_slice()
+    );
+    assert_eq!(rt; store.room(files_in(&[], &files)), 0);
+    assert_eq!(rt; store.room(files_in(&[0], &files)), 0);
+    assert_eq!(rt; store.room(files_in(&[0, 0], &files)), 1);
+    assert_eq!(rt; store.room(files_in(&[0, 0, 0, 0], front(&files, 95))), 1);
+    assert_eq!(rt; store.room(files_in(&[0, 0], &[])), 0);
     Ok(())
 }
 
@@ -393,20 +472,30 @@ fn a_damaged_file_is_none(rt: HostRuntime) -> Result<(), Fail> {
     let mut files = [0xaa; 96];
     let store = two_files(&rt, &mut directory, &mut files)?;
     directory[1] = 49;
-    assert!(rt; store.file(&directory, &files, 0).is_none());
-    assert!(rt; store.files(rt.alloc(), &directory, &files)?.as_slice() == [0, 1].as_slice());
+    assert!(rt; store.file(files_in(&directory, &files), 0).is_none());
+    assert!(rt;
+        store
+            .files(rt.alloc(), files_in(&directory, &files))?
+            .as_slice()
+            == [0, 1].as_slice()
+    );
     directory[1] = 40;
-    assert!(rt; store.file(&directory, &files, 0).is_none());
+    assert!(rt; store.file(files_in(&directory, &files), 0).is_none());
     directory[1] = u64::MAX;
-    assert!(rt; store.file(&directory, &files, 0).is_none());
+    assert!(rt; store.file(files_in(&directory, &files), 0).is_none());
     directory[0] = 5;
     directory[1] = 48;
-    assert!(rt; store.file(&directory, &files, 0).is_none());
-    assert!(rt; store.file(&directory, &files, 4).is_none());
-    assert!(rt; store.files(rt.alloc(), &directory, &files)?.as_slice() == [4, 1].as_slice());
+    assert!(rt; store.file(files_in(&directory, &files), 0).is_none());
+    assert!(rt; store.file(files_in(&directory, &files), 4).is_none());
+    assert!(rt;
+        store
+            .files(rt.alloc(), files_in(&directory, &files))?
+            .as_slice()
+            == [4, 1].as_slice()
+    );
     files[80] = 0;
-    assert!(rt; store.file(&directory, &files, 1).is_none());
-    assert_eq!(rt; store.room(&directory, &files), 0);
+    assert!(rt; store.file(files_in(&directory, &files), 1).is_none());
+    assert_eq!(rt; store.room(files_in(&directory, &files)), 0);
     Ok(())
 }
 
@@ -476,7 +565,7 @@ fn a_refused_opening_leaves_the_directory(rt: HostRuntime) {
 fn an_empty_store_is_written_out_as_its_header(rt: HostRuntime) -> Result<(), Fail> {
     let heap = rt.alloc();
     let store = Store::reopen(8, 0, 0, 1)?;
-    let out = store.write_out(heap, &[0, 0, 0, 0], &[0xaa; 96], &[], &[])?;
+    let out = store.write_out(heap, files_in(&[0, 0, 0, 0], &[0xaa; 96]), log_in(&[], &[]))?;
     assert!(rt; out.as_slice() == bytes_of(heap, &[8, 0, 1, 2, 0, 0, 11])?.as_slice());
     Ok(())
 }
@@ -498,17 +587,21 @@ fn a_store_is_written_out_with_what_it_holds(rt: HostRuntime) -> Result<(), Fail
     let mut log = [0xaa; 100];
     let mut store = Store::open(&mut directory, 8, 1)?;
     assert_eq!(rt;
-        store.put_rows(&mut directory, &mut files, 7, &[1, 5]),
+        put_rows(&mut store, &mut directory, &mut files, &[1, 5]),
         added(0, span(1, 1))
     );
     assert_eq!(rt;
-        store.put_entry(&mut ends, &mut log, &insert(heap, 0, 3)),
+        put_entry(&mut store, &mut ends, &mut log, &insert(heap, 0, 3)),
         Ok(1)
     );
-    let out = store.write_out(heap, &directory, &files, &ends, &log)?;
+    let out = store.write_out(heap, files_in(&directory, &files), log_in(&ends, &log))?;
     assert!(rt; out.as_slice() == bytes_of(heap, WHOLE)?.as_slice());
     directory[1] = 49;
-    let damaged = store.write_out(heap, &directory, &files, &ends, front(&log, 87))?;
+    let damaged = store.write_out(
+        heap,
+        files_in(&directory, &files),
+        log_in(&ends, front(&log, 87)),
+    )?;
     assert!(rt; damaged.as_slice() == bytes_of(heap, DAMAGED)?.as_slice());
     Ok(())
 }
@@ -523,10 +616,14 @@ fn what_was_written_out_is_read_in(rt: HostRuntime) -> Result<(), Fail> {
     let mut log = [0xaa; 100];
     let Ok(store) = Store::read_in(
         bytes.as_slice(),
-        &mut directory,
-        &mut files,
-        &mut ends,
-        &mut log,
+        &mut FileMemoryMut {
+            directory: &mut directory,
+            bytes: &mut files,
+        },
+        &mut LogMemoryMut {
+            ends: &mut ends,
+            bytes: &mut log,
+        },
     ) else {
         assert!(rt; false);
         return Ok(());
@@ -535,7 +632,7 @@ fn what_was_written_out_is_read_in(rt: HostRuntime) -> Result<(), Fail> {
     assert!(rt; &ends[..] == [88, 9].as_slice());
     assert_eq!(rt; store.next(), 1);
     assert_eq!(rt; store.entries(), 1);
-    let out = store.write_out(heap, &directory, &files, &ends, &log)?;
+    let out = store.write_out(heap, files_in(&directory, &files), log_in(&ends, &log))?;
     assert!(rt; out.as_slice() == bytes.as_slice());
     Ok(())
 }
@@ -549,10 +646,14 @@ fn why_unread(heap: Global, numbers: &[u64]) -> Result<Option<Unread>, AllocErro
     let mut log = [0xaa; 8];
     Ok(Store::read_in(
         bytes.as_slice(),
-        &mut directory,
-        &mut files,
-        &mut ends,
-        &mut log,
+        &mut FileMemoryMut {
+            directory: &mut directory,
+            bytes: &mut files,
+        },
+        &mut LogMemoryMut {
+            ends: &mut ends,
+            bytes: &mut log,
+        },
     )
     .err())
 }
