@@ -12,15 +12,11 @@ pub mod row;
 pub mod span;
 
 // The order in which rows stand means nothing to what an order does and touches.
-pub fn row_order_means_nothing() -> u8
+pub fn row_order_means_nothing()
     ensures { RowOrderMeansNothing }
-{
-    0
-}
+{}
 
 // Two spans overlap exactly if some key lies in both.
-pub fn overlapping_is_sharing_a_key() -> u8
+pub fn overlapping_is_sharing_a_key()
     ensures { OverlappingIsSharingAKey }
-{
-    0
-}
+{}
