@@ -1,10 +1,11 @@
 // Rows, spans and orders, what an order does to rows, and why a deed is refused.
 #![tactic(auto)]
 
-ghost use Rattle.rows.specs.Laws.{RowOrderMeansNothing, OverlappingIsSharingAKey};
+ghost use Rattle.rows.specs.Laws.{RowOrderMeansNothing, OverlappingIsSharingAKey, KindsComeBack};
 
 pub mod apply;
 pub mod horizon;
+pub mod kind;
 mod numbers;
 pub mod order;
 pub mod refusal;
@@ -19,4 +20,9 @@ pub fn row_order_means_nothing()
 // Two spans overlap exactly if some key lies in both.
 pub fn overlapping_is_sharing_a_key()
     ensures { OverlappingIsSharingAKey }
+{}
+
+// A kind comes back from the number that stands for it.
+pub fn kinds_come_back()
+    ensures { KindsComeBack }
 {}

@@ -14,7 +14,7 @@ const KEY_LIMIT: u64 = 4294967296;
 // The most rows of one insert.
 const MOST_INSERTED: u64 = 1024;
 
-pub(crate) fn number_at(numbers: &[u64], i: usize) -> Option<u64>
+fn number_at(numbers: &[u64], i: usize) -> Option<u64>
     ensures { result ≡ number_at numbers.now i }
 {
     if i >= numbers.len() {
