@@ -1,15 +1,14 @@
 -- Laws of what orders do.
-use Rattle.std.proofs.Common.{◌≡◌, ℕ, ◌+◌, ◌<◌, ◌≤◌, true, ◌&&◌, ◌||◌, leb, List, [], ◌∷◌, ◌++◌, length, get_or, take, drop, Some, None, Ok, Err, Result, sym, refl, ap, ◌∙◌, append_assoc, append-nil, zero-add, arith}
+use Rattle.std.proofs.Common.{◌≡◌, ℕ, ◌+◌, ◌<◌, ◌≤◌, ◌&&◌, ◌||◌, leb, List, [], ◌∷◌, ◌++◌, length, get_or, take, drop, Some, Ok, Err, Result, sym, refl, ap, ◌∙◌, append_assoc, append-nil, zero-add, arith}
 use Rattle.std.proofs.lemmas.List.{take_all, at_drop_more, at_drop_all}
 use Rattle.std.proofs.lemmas.Bool.Decides.{nat_tests}
 use Rattle.rows.specs.declared.refusal.Refusal.{Refusal}
-use Rattle.rows.specs.declared.refusal.Refusal.TheVariants.{TooLarge}
 use Rattle.rows.specs.declared.row.Row.{Row}
 use Rattle.rows.specs.declared.span.Span.{Span}
 use Rattle.rows.specs.Checks.{and_then}
 use Rattle.rows.specs.Laws.{RowOrderMeansNothing}
 use Rattle.rows.specs.Orders.{Order, insert, erase, raise, pack, done_to, touched, passes_limit, Outcome, applied}
-use Rattle.rows.specs.Rows.{amount_limit, within, outside, raised, raised_row, many_within, Alike}
+use Rattle.rows.specs.Rows.{amount_limit, within, raised, raised_row, many_within, Alike}
 use Rattle.rows.proofs.Rows.{alike_refl, alike_append, outside_alike, raised_alike, many_alike}
 
 -- an insert that has so many rows in, and what is left
@@ -33,20 +32,10 @@ unfolding done_to touched
 insert_applied (Ok rs) xs = let n = zero-add (length rs) in ap Ok (λ k. record { rows = xs ++ rs; touched = n k })
 insert_applied (Err e) xs = refl
 
-module _ (s : Span) (xs rows : List Row) (i count : ℕ) (end : length xs ≤ i) (many : count ≡ many_within s xs) where
-  all : take i xs ≡ xs
-  all = take_all i xs end
-
-  pub erase_applied : rows ≡ outside s (take i xs) → Ok (record { rows = rows; touched = count }) ≡ applied (erase s) xs
-  unfolding done_to touched
-  erase_applied e = cc all
-
-  pub raise_applied : (n : ℕ) → rows ≡ raised s n (take i xs) → passes_limit s n (drop i xs) ≡ passes_limit s n xs → Ok (record { rows = rows; touched = count }) ≡ applied (raise s n) xs
-  unfolding done_to touched
-  raise_applied n e limit = cc (all, at_drop_all (passes_limit s n) xs i end)
-
-pub raise_refused : (s : Span) (n : ℕ) (xs : List Row) → passes_limit s n xs ≡ true → Err (TooLarge 0) ≡ applied (raise s n) xs
-raise_refused s n xs e = cc
+pub raise_applied : (s : Span) (n : ℕ) (xs rows : List Row) (i count : ℕ) → length xs ≤ i → count ≡ many_within s xs → rows ≡ raised s n (take i xs) → passes_limit s n (drop i xs) ≡ passes_limit s n xs
+    → Ok (record { rows = rows; touched = count }) ≡ applied (raise s n) xs
+unfolding done_to touched
+raise_applied s n xs rows i count end many e limit = let all = take_all i xs end in cc (all, e, many, limit, at_drop_all (passes_limit s n) xs i end)
 
 pub done_alike : (o : Order) (xs ys : List Row) → Alike xs ys → Alike (done_to o xs) (done_to o ys)
 unfolding done_to
@@ -72,6 +61,3 @@ module _ (s : Span) (n : ℕ) (xs : List Row) (i : ℕ) (d : Row) (h : i < lengt
 
   pub limit_more : (r : Row) → Some r ≡ raised_row s n (get_or xs i d) → passes_limit s n (drop (i + 1) xs) ≡ passes_limit s n (drop i xs)
   limit_more r e = let step = limit_step in grind (arith, nat_tests)
-
-  pub limit_met : None ≡ raised_row s n (get_or xs i d) → passes_limit s n (drop i xs) ≡ true
-  limit_met e = let step = limit_step in grind (arith, nat_tests)

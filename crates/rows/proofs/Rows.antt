@@ -1,8 +1,8 @@
 -- Laws of rows in a span, rows that are raised, and rows alike.
 use Rattle.std.proofs.Common.{◌≡◌, ℕ, ◌+◌, ◌<◌, ◌≤◌, Bool, true, false, cond, not, eqb, List, [], ◌∷◌, ◌++◌, map, length, get_or, take, Some, sum_by, count_by, filter, sym, refl, ap, ◌∙◌, arith}
-use Rattle.std.proofs.lemmas.List.Elements.{filter-append, filter_more}
+use Rattle.std.proofs.lemmas.List.Elements.{filter-append}
 use Rattle.std.proofs.lemmas.List.Filters.{length-filter_both}
-use Rattle.std.proofs.lemmas.List.{append-nil, length-map, map-append, map_more}
+use Rattle.std.proofs.lemmas.List.{map-append, map_more}
 use Rattle.std.proofs.lemmas.List.Sums.{sum_by-cons, sum_by-append, count_by_more_yes, count_by_more_no, length-filter}
 use Rattle.std.proofs.lemmas.Bool.{eqb-true, eq-eqb, and_parts, and_from}
 use Rattle.std.proofs.lemmas.Bool.Decides.{nat_tests}
@@ -72,10 +72,6 @@ many_and_outside s xs = omega (arith, length-filter (within s) xs, length-filter
 pub many_le_length : (s : Span) (xs : List Row) → many_within s xs ≤ length xs
 many_le_length s xs = omega (arith, many_and_outside s xs)
 
-pub length_raised : (s : Span) (n : ℕ) (xs : List Row) → length (raised s n xs) ≡ length xs
-unfolding raised
-length_raised s n xs = length-map xs (raise_within s n)
-
 -- no row in the span: nothing happens
 pub outside_none : (s : Span) (xs : List Row) → many_within s xs ≡ 0 → outside s xs ≡ xs
 unfolding many_within outside
@@ -112,10 +108,6 @@ alike_trans xs ys zs h k r = h r ∙ k r
 pub alike_append : (xs xs' ys ys' : List Row) → Alike xs xs' → Alike ys ys' → Alike (xs ++ ys) (xs' ++ ys')
 unfolding Alike
 alike_append xs xs' ys ys' h k r = omega (arith, times_append r xs ys, times_append r xs' ys', h r, k r)
-
-pub alike_swap : (xs ys : List Row) → Alike (xs ++ ys) (ys ++ xs)
-unfolding Alike
-alike_swap xs ys r = omega (arith, times_append r xs ys, times_append r ys xs)
 
 -- whatever is counted of each row comes to the same for rows alike
 pub sum_alike : (f : Row → ℕ) (xs ys : List Row) → Alike xs ys → sum_by f xs ≡ sum_by f ys
@@ -156,15 +148,6 @@ many_alike s xs ys h = sum_alike _ xs ys h
 
 -- one row more, as a loop over rows meets it
 module _ (s : Span) (xs : List Row) (i : ℕ) (d : Row) (h : i < length xs) where
-  pub outside_more_in : true ≡ within s (get_or xs i d) → outside s (take (i + 1) xs) ≡ outside s (take i xs)
-  unfolding outside
-  outside_more_in t =
-      filter_more (λ r. not (within s r)) xs i d h ∙ ap (λ b. outside s (take i xs) ++ cond (not b) (get_or xs i d ∷ []) []) (sym t) ∙ append-nil (outside s (take i xs))
-
-  pub outside_more_out : false ≡ within s (get_or xs i d) → outside s (take (i + 1) xs) ≡ outside s (take i xs) ++ get_or xs i d ∷ []
-  unfolding outside
-  outside_more_out t = filter_more (λ r. not (within s r)) xs i d h ∙ ap (λ b. outside s (take i xs) ++ cond (not b) (get_or xs i d ∷ []) []) (sym t)
-
   pub many_more_in : true ≡ within s (get_or xs i d) → many_within s (take (i + 1) xs) ≡ many_within s (take i xs) + 1
   unfolding many_within
   many_more_in t = count_by_more_yes (within s) xs i d h (sym t)

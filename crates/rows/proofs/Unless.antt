@@ -3,13 +3,6 @@ use Rattle.std.proofs.Common.{Bool, true, false, Err, MatchBool, Result}
 use Rattle.rows.specs.declared.refusal.Refusal.{Refusal}
 use Rattle.rows.specs.Refusals.{ran_out, UnlessOut}
 
-pub unless_out_from : {A : Type 0} (r : Result A Refusal) (P : Type 0) → P → UnlessOut r P
-unless_out_from r P p = go (ran_out r)
-  where
-    go : (b : Bool) → MatchBool b (Unit {0}) P
-    go true = tt
-    go false = p
-
 -- what is promised of a refusal is promised of the same refusal in an answer of another type
 pub unless_hands_on : (e : Refusal) (P Q : Type 0) → (P → Q) → UnlessOut {A = Unit} (Err e) P → UnlessOut {A = Unit} (Err e) Q
 unless_hands_on e P Q f h = go (ran_out {A = Unit} (Err e)) h

@@ -1,8 +1,11 @@
--- What is promised of orders and spans.
-use Rattle.std.specs.Prelude.{◌≡◌, List, Decides}
+-- What is promised of orders, spans and kinds.
+use Rattle.std.specs.Prelude.{◌≡◌, List, Ok, Result, Decides}
+use Rattle.rows.specs.declared.kind.Kind.{Kind}
+use Rattle.rows.specs.declared.kind.UnknownKind.{UnknownKind}
 use Rattle.rows.specs.declared.row.Row.{Row}
 use Rattle.rows.specs.declared.span.Span.{Span}
 use Rattle.rows.specs.Rows.{Alike}
+use Rattle.rows.specs.Kinds.{number_of_kind, IsKindFrom}
 use Rattle.rows.specs.Spans.{overlap, ShareAKey}
 use Rattle.rows.specs.Orders.{Order, done_to, touched}
 
@@ -13,3 +16,7 @@ RowOrderMeansNothing =
 
 abbrev pub OverlappingIsSharingAKey : Type 0
 OverlappingIsSharingAKey = (a b : Span) → Decides (overlap a b) (ShareAKey a b)
+
+-- a kind comes back from the number that stands for it
+abbrev pub KindsComeBack : Type 0
+KindsComeBack = (kind : Kind) (answer : Result Kind UnknownKind) → IsKindFrom (number_of_kind kind) answer → answer ≡ Ok kind

@@ -1,5 +1,5 @@
 -- Orders as numbers: kind, then count, key and amount of each row (0 insert), from and to (1 erase), from, to and n (2 raise), or m (3 pack).
-use Rattle.std.specs.Prelude.{ℕ, zero, suc, ◌+◌, ◌*◌, ◌^◌, cond, List, [], ◌∷◌, length, drop, Some, None, Ok, Err, vec_items, Option, Result, ◌==◌, nat_le, nat_lt, slice_index}
+use Rattle.std.specs.Prelude.{◌≡◌, ℕ, zero, suc, ◌+◌, ◌*◌, ◌^◌, cond, List, [], ◌∷◌, length, drop, Some, None, Ok, Err, vec_items, Option, Result, ◌==◌, nat_le, nat_lt, slice_index}
 use Rattle.rows.specs.declared.refusal.Refusal.{Refusal}
 use Rattle.rows.specs.declared.refusal.Refusal.TheVariants.{NoSuchOrder}
 use Rattle.rows.specs.declared.row.Row.{Row}
@@ -8,7 +8,8 @@ use Rattle.rows.specs.declared.apply.Applied.{Applied}
 use Rattle.rows.specs.declared.order.Order.{Order as CodeOrder}
 use Rattle.rows.specs.declared.order.Order.TheVariants.{Insert, Erase, Raise, Pack}
 use Rattle.rows.specs.Checks.{some_else, and_then}
-use Rattle.rows.specs.Orders.{Order, insert, erase, raise, pack, Outcome}
+use Rattle.rows.specs.Orders.{Order, insert, erase, raise, pack, Outcome, applied}
+use Rattle.rows.specs.Refusals.{UnlessOut}
 use Rattle.rows.specs.Rows.{amount_limit}
 
 abbrev pub key_limit : ℕ
@@ -32,9 +33,9 @@ fault i = Err (NoSuchOrder i)
 abbrev pub row : ℕ → ℕ → Row
 row k a = record { key = k; amount = a }
 
--- the row whose key stands at an index of lent rows; its own index among the order's numbers is two more
-abbrev pub row_from : List ℕ → ℕ → Result Row Refusal
-row_from xs i = some_else (below_at key_limit xs i) (fault (2 + i)) (λ k. some_else (below_at amount_limit xs (1 + i)) (fault (3 + i)) (λ a. Ok (row k a)))
+-- the row that a key and an amount are, the first of which stands at an index of the order
+abbrev pub row_from : ℕ → List ℕ → Result Row Refusal
+row_from i xs = some_else (below_at key_limit xs 0) (fault i) (λ k. some_else (below_at amount_limit xs 1) (fault (1 + i)) (λ a. Ok (row k a)))
 
 -- lent rows, key and amount of each, the first of which stands at an index of the order
 abbrev pub rows_from : ℕ → List ℕ → Result (List Row) Refusal
@@ -95,3 +96,7 @@ order_of (Pack m) = Ok (pack m)
 abbrev pub outcome : Result Applied Refusal → Result Outcome Refusal
 outcome (Ok a) = Ok (record { rows = vec_items a.rows; touched = a.touched })
 outcome (Err e) = Err e
+
+-- what the code promises of its answer to an order, if it is one
+abbrev pub IsApplied : Result Order Refusal → List Row → Result Applied Refusal → Type 0
+IsApplied o rs r = UnlessOut r (outcome r ≡ and_then o (λ o. applied o rs))

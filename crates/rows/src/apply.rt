@@ -1,10 +1,8 @@
 // What an order does to rows: the plain way, which every other way of doing orders is held to.
-ghost use Rattle.std.specs.Prelude.{◌≡◌};
-ghost use Rattle.rows.specs.Checks.{and_then};
-ghost use Rattle.rows.specs.Refusals.{UnlessOut};
+ghost use Rattle.std.specs.Prelude.{◌≡◌, Ok};
 ghost use Rattle.rows.specs.Rows.{many_within};
-ghost use Rattle.rows.specs.Orders.{erase, raise, pack, applied};
-ghost use Rattle.rows.specs.Numbers.{insert_of, order_of, outcome};
+ghost use Rattle.rows.specs.Orders.{erase, raise, pack};
+ghost use Rattle.rows.specs.Numbers.{insert_of, order_of, IsApplied};
 
 use crate::numbers::row_from;
 use crate::order::Order;
@@ -21,17 +19,16 @@ pub struct Applied {
 }
 
 fn inserted(heap: Global, rows: &[Row], lent: &[u64]) -> Result<Applied, Refusal>
-    ensures { UnlessOut result (outcome result ≡ and_then (insert_of lent.now) (λ o. applied o rows.now)) }
+    ensures { IsApplied (insert_of lent.now) rows.now result }
 {
     let mut all = Vec::from_slice(heap, rows)?;
-    let count = lent.len() / 2 + lent.len() % 2;
-    for i in 0..count {
-        let row = row_from(lent, 2 * i)?;
+    for (i, pair) in lent.chunks(2).enumerate() {
+        let row = row_from(pair, i)?;
         all.push(row)?;
     }
     Ok(Applied {
         rows: all,
-        touched: count as u64,
+        touched: lent.len().div_ceil(2) as u64,
     })
 }
 
@@ -39,32 +36,21 @@ fn inserted(heap: Global, rows: &[Row], lent: &[u64]) -> Result<Applied, Refusal
 fn count_within(rows: &[Row], span: Span) -> u64
     ensures { result ≡ many_within span rows.now }
 {
-    let mut count = 0;
-    for row in rows {
-        if span.contains(row.key) {
-            count += 1;
-        }
-    }
-    count
+    rows.iter().filter(|row| span.contains(row.key)).count() as u64
 }
 
 fn erased(heap: Global, rows: &[Row], span: Span) -> Result<Applied, Refusal>
-    ensures { UnlessOut result (outcome result ≡ applied (erase span) rows.now) }
+    ensures { IsApplied (Ok (erase span)) rows.now result }
 {
-    let mut rest = Vec::new(heap);
-    for row in rows {
-        if !span.contains(row.key) {
-            rest.push(*row)?;
-        }
-    }
+    let kept = rows.iter().copied().filter(|row| !span.contains(row.key));
     Ok(Applied {
-        rows: rest,
+        rows: kept.collect(heap)?,
         touched: count_within(rows, span),
     })
 }
 
 fn raised(heap: Global, rows: &[Row], span: Span, by: u32) -> Result<Applied, Refusal>
-    ensures { UnlessOut result (outcome result ≡ applied (raise span by) rows.now) }
+    ensures { IsApplied (Ok (raise span by)) rows.now result }
 {
     let mut all = Vec::new(heap);
     for row in rows {
@@ -80,7 +66,7 @@ fn raised(heap: Global, rows: &[Row], span: Span, by: u32) -> Result<Applied, Re
 }
 
 fn unchanged(heap: Global, rows: &[Row], most: u64) -> Result<Applied, Refusal>
-    ensures { UnlessOut result (outcome result ≡ applied (pack most) rows.now) }
+    ensures { IsApplied (Ok (pack most)) rows.now result }
 {
     Ok(Applied {
         rows: Vec::from_slice(heap, rows)?,
@@ -91,7 +77,7 @@ fn unchanged(heap: Global, rows: &[Row], most: u64) -> Result<Applied, Refusal>
 impl Order<'_> {
     // The rows after the order, and how many it touched; refused where an amount would come to 2^40 or more.
     pub fn apply(self, heap: Global, rows: &[Row]) -> Result<Applied, Refusal>
-        ensures { UnlessOut result (outcome result ≡ and_then (order_of self.entry) (λ o. applied o rows.now)) }
+        ensures { IsApplied (order_of self.entry) rows.now result }
     {
         match self {
             Order::Insert(lent) => inserted(heap, rows, lent),

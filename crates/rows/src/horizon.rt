@@ -5,7 +5,7 @@ ghost use Rattle.rows.specs.Refusals.{horizon_from};
 use crate::refusal::Refusal;
 
 // The largest horizon.
-const MOST_HORIZON: u64 = 4096;
+pub const MOST_HORIZON: u64 = 4096;
 
 // A number as a horizon, unless it is above the largest.
 pub fn horizon_from(number: u64) -> Result<u64, Refusal>

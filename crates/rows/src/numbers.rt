@@ -1,88 +1,60 @@
 // Orders and their rows, read from numbers. A fault is told by the index of the first number at fault.
-ghost use Rattle.std.specs.Prelude.{◌≡◌, ◌<◌, length, Ok};
+ghost use Rattle.std.specs.Prelude.{◌≡◌, ◌+◌, ◌*◌, ◌^◌, ◌<◌, Ok};
 ghost use Rattle.rows.specs.Checks.{and_then};
-ghost use Rattle.rows.specs.Numbers.{key_limit, number_at, below_at, row_from, lent_rows, insert_count, insert_from, span_from, erase_from, raise_from, pack_from, order_of};
+ghost use Rattle.rows.specs.Numbers.{key_limit, below_at, row_from, lent_rows, insert_count, insert_from, span_from, erase_from, raise_from, pack_from, order_of};
 
 use crate::order::Order;
 use crate::refusal::Refusal;
 use crate::row::{AMOUNT_LIMIT, Row};
 use crate::span::Span;
 
-// Keys stay below 2^32.
-const KEY_LIMIT: u64 = 4294967296;
-
 // The most rows of one insert.
 const MOST_INSERTED: u64 = 1024;
 
-pub(crate) fn number_at(numbers: &[u64], i: usize) -> Option<u64>
-    ensures { result ≡ number_at numbers.now i }
-{
-    if i >= numbers.len() {
-        return None;
-    }
-    Some(numbers[i])
-}
-
-pub(crate) fn key_at(numbers: &[u64], i: usize) -> Option<u32>
+fn key_at(numbers: &[u64], i: usize) -> Option<u32>
     ensures { result ≡ below_at key_limit numbers.now i }
 {
-    let Some(number) = number_at(numbers, i) else {
-        return None;
-    };
-    if number >= KEY_LIMIT {
-        return None;
-    }
-    Some(number as u32)
+    let number = *numbers.get(i)?;
+    u32::try_from(number).ok()
 }
 
-pub(crate) fn below_at(numbers: &[u64], i: usize, limit: u64) -> Option<u64>
+fn below_at(numbers: &[u64], i: usize, limit: u64) -> Option<u64>
     ensures { result ≡ below_at limit numbers.now i }
 {
-    let Some(number) = number_at(numbers, i) else {
-        return None;
-    };
-    if number >= limit {
-        return None;
-    }
-    Some(number)
+    numbers.get(i).copied().filter(|&number| number < limit)
 }
 
-// The row whose key stands at an index of lent rows; a fault is told by its index among the order's numbers, which is two more.
-pub(crate) fn row_from(lent: &[u64], i: usize) -> Result<Row, Refusal>
-    requires { i < length lent.now }
-    ensures { result ≡ row_from lent.now i }
+// The row that a pair of lent numbers is, behind so many other pairs, the first of which stands at 2 in the order.
+pub(crate) fn row_from(pair: &[u64], i: usize) -> Result<Row, Refusal>
+    requires { i < 2 ^ 62 }
+    ensures { result ≡ row_from (2 + 2 * i) pair.now }
 {
-    let Some(key) = key_at(lent, i) else {
-        return Err(Refusal::NoSuchOrder(2 + i as u64));
+    let place = 2 + 2 * i as u64;
+    let Some(key) = key_at(pair, 0) else {
+        return Err(Refusal::NoSuchOrder(place));
     };
-    let Some(amount) = below_at(lent, 1 + i, AMOUNT_LIMIT) else {
-        return Err(Refusal::NoSuchOrder(3 + i as u64));
+    let Some(amount) = below_at(pair, 1, AMOUNT_LIMIT) else {
+        return Err(Refusal::NoSuchOrder(1 + place));
     };
     Ok(Row { key, amount })
 }
 
-// How many rows are lent, if all of them are rows.
-pub(crate) fn count_rows(lent: &[u64]) -> Result<usize, Refusal>
-    ensures { result ≡ and_then (lent_rows lent.now) (λ rs. Ok (length rs)) }
+// Whether all lent rows are rows.
+fn check_rows(lent: &[u64]) -> Result<(), Refusal>
+    ensures { result ≡ and_then (lent_rows lent.now) (λ _. Ok tt) }
 {
-    let count = lent.len() / 2 + lent.len() % 2;
-    for i in 0..count {
-        row_from(lent, 2 * i)?;
+    for (i, pair) in lent.chunks(2).enumerate() {
+        row_from(pair, i)?;
     }
-    Ok(count)
+    Ok(())
 }
 
 // How many rows an insert says that it has, if it may have so many and has them.
-pub(crate) fn insert_count(numbers: &[u64]) -> Option<u64>
+fn insert_count(numbers: &[u64]) -> Option<u64>
     ensures { result ≡ insert_count numbers.now }
 {
-    let Some(count) = below_at(numbers, 1, 1 + MOST_INSERTED) else {
-        return None;
-    };
-    if numbers.len() as u64 != 2 + 2 * count {
-        return None;
-    }
-    Some(count)
+    let count = below_at(numbers, 1, 1 + MOST_INSERTED)?;
+    (numbers.len() as u64 == 2 + 2 * count).then_some(count)
 }
 
 pub(crate) fn insert_from(numbers: &[u64]) -> Result<Order<'_>, Refusal>
@@ -92,11 +64,11 @@ pub(crate) fn insert_from(numbers: &[u64]) -> Result<Order<'_>, Refusal>
         return Err(Refusal::NoSuchOrder(1));
     };
     let lent = &numbers[2..];
-    count_rows(lent)?;
+    check_rows(lent)?;
     Ok(Order::Insert(lent))
 }
 
-pub(crate) fn span_from(numbers: &[u64]) -> Result<Span, Refusal>
+fn span_from(numbers: &[u64]) -> Result<Span, Refusal>
     ensures { result ≡ span_from numbers.now }
 {
     let Some(from) = key_at(numbers, 1) else {
@@ -134,7 +106,7 @@ pub(crate) fn raise_from(numbers: &[u64]) -> Result<Order<'_>, Refusal>
 pub(crate) fn pack_from(numbers: &[u64]) -> Result<Order<'_>, Refusal>
     ensures { and_then result order_of ≡ pack_from numbers.now }
 {
-    let Some(most) = number_at(numbers, 1) else {
+    let Some(&most) = numbers.get(1) else {
         return Err(Refusal::NoSuchOrder(1));
     };
     if numbers.len() > 2 {

@@ -3,7 +3,8 @@ ghost use Rattle.std.specs.Prelude.{◌≡◌};
 ghost use Rattle.rows.specs.Checks.{and_then};
 ghost use Rattle.rows.specs.Numbers.{order_from, order_of};
 
-use crate::numbers::{erase_from, insert_from, number_at, pack_from, raise_from};
+use crate::kind::Kind;
+use crate::numbers::{erase_from, insert_from, pack_from, raise_from};
 use crate::refusal::Refusal;
 use crate::span::Span;
 
@@ -19,20 +20,24 @@ pub enum Order<'a> {
     Pack(u64),
 }
 
-impl<'a> Order<'a> {
-    // The order that some numbers are: kind and then `0 count key amount ..`, `1 from to`, `2 from to n` or `3 m`.
-    pub fn from_numbers(numbers: &'a [u64]) -> Result<Order<'a>, Refusal>
-        ensures { and_then result order_of ≡ order_from numbers.now }
-    {
-        let Some(kind) = number_at(numbers, 0) else {
+// The order that some numbers are: kind and then `0 count key amount ..`, `1 from to`, `2 from to n` or `3 m`.
+impl<'a> TryFrom<&'a [u64]> for Order<'a> {
+    type Error = Refusal;
+
+    ghost try_from_gives = { λ numbers order. and_then order order_of ≡ order_from numbers.now };
+
+    fn try_from(numbers: &'a [u64]) -> Result<Order<'a>, Refusal> {
+        let Some(&number) = numbers.first() else {
+            return Err(Refusal::NoSuchOrder(0));
+        };
+        let Ok(kind) = Kind::try_from(number) else {
             return Err(Refusal::NoSuchOrder(0));
         };
         match kind {
-            0 => insert_from(numbers),
-            1 => erase_from(numbers),
-            2 => raise_from(numbers),
-            3 => pack_from(numbers),
-            _ => Err(Refusal::NoSuchOrder(0)),
+            Kind::Insert => insert_from(numbers),
+            Kind::Erase => erase_from(numbers),
+            Kind::Raise => raise_from(numbers),
+            Kind::Pack => pack_from(numbers),
         }
     }
 }

@@ -47,8 +47,7 @@ impl Refusal {
             Refusal::NoRoom(_) => 6,
             Refusal::TooLarge(_) => 7,
             Refusal::LogFull => 8,
-            Refusal::DamagedFile(_) => 9,
-            Refusal::DamagedEntry(_) => 9,
+            Refusal::DamagedFile(_) | Refusal::DamagedEntry(_) => 9,
             Refusal::OutOfMemory => 13,
         }
     }
@@ -57,16 +56,16 @@ impl Refusal {
         ensures { result ≡ place_of self }
     {
         match self {
-            Refusal::HorizonTooLarge(h) => h,
-            Refusal::NoSuchWriter(writer) => writer,
-            Refusal::NoSuchOrder(index) => index,
-            Refusal::IdleWriter(writer) => writer,
-            Refusal::NoSuchVersion(version) => version,
-            Refusal::NoRoom(room) => room,
-            Refusal::TooLarge(number) => number,
+            Refusal::HorizonTooLarge(number)
+            | Refusal::NoSuchWriter(number)
+            | Refusal::NoSuchOrder(number)
+            | Refusal::IdleWriter(number)
+            | Refusal::NoSuchVersion(number)
+            | Refusal::NoRoom(number)
+            | Refusal::TooLarge(number)
+            | Refusal::DamagedFile(number) => number,
+            Refusal::DamagedEntry(place) => ENTRY_PLACES + u64::from(place),
             Refusal::LogFull => LOG_LIMIT,
-            Refusal::DamagedFile(number) => number,
-            Refusal::DamagedEntry(place) => ENTRY_PLACES + place as u64,
             Refusal::OutOfMemory => 0,
         }
     }

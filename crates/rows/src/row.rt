@@ -19,13 +19,8 @@ impl Row {
     pub fn raise(self, by: u32) -> Option<Row>
         ensures { result ≡ raise_row by self }
     {
-        if self.amount >= AMOUNT_LIMIT - by as u64 {
-            return None;
-        }
-        Some(Row {
-            key: self.key,
-            amount: self.amount + by as u64,
-        })
+        let amount = self.amount.checked_add(u64::from(by))?;
+        (amount < AMOUNT_LIMIT).then_some(Row { amount, ..self })
     }
 
     // The row as a raise of a span leaves it.

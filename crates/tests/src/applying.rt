@@ -29,7 +29,7 @@ fn makes(
     rows: &[Row],
     touched: u64,
 ) -> Result<(), Fail> {
-    let applied = Order::from_numbers(numbers)?.apply(heap, &ROWS)?;
+    let applied = Order::try_from(numbers)?.apply(heap, &ROWS)?;
     assert!(rt; applied.rows.as_slice() == rows);
     assert_eq!(rt; applied.touched, touched);
     Ok(())
@@ -97,7 +97,7 @@ fn a_pack_changes_nothing(rt: HostRuntime) -> Result<(), Fail> {
 
 // The refusal of the order of these numbers, by number and place.
 fn refusal(heap: Global, numbers: &[u64], rows: &[Row]) -> Option<(u8, u64)> {
-    let Ok(order) = Order::from_numbers(numbers) else {
+    let Ok(order) = Order::try_from(numbers) else {
         return None;
     };
     match order.apply(heap, rows) {

@@ -11,7 +11,7 @@ const AMOUNTS: u64 = 1099511627776;
 
 // The index at which an order is refused.
 fn fault(numbers: &[u64]) -> Option<u64> {
-    match Order::from_numbers(numbers) {
+    match Order::try_from(numbers) {
         Err(Refusal::NoSuchOrder(index)) => Some(index),
         _ => None,
     }
@@ -101,22 +101,22 @@ fn an_insert_has_at_most_1024_rows(rt: HostRuntime) -> Result<(), Fail> {
 
 #[test]
 fn numbers_are_the_orders_that_they_say(rt: HostRuntime) -> Result<(), Fail> {
-    match Order::from_numbers(&[1, 4, 9]) {
+    match Order::try_from([1, 4, 9].as_slice()) {
         Ok(Order::Erase(span)) => assert_eq!(rt; span, Span { from: 4, to: 9 }),
         _ => return Err(Fail::new("no erase")),
     }
-    match Order::from_numbers(&[2, 9, 4, 7]) {
+    match Order::try_from([2, 9, 4, 7].as_slice()) {
         Ok(Order::Raise(span, by)) => {
             assert_eq!(rt; span, Span { from: 9, to: 4 });
             assert_eq!(rt; by, 7);
         }
         _ => return Err(Fail::new("no raise")),
     }
-    match Order::from_numbers(&[3, 12]) {
+    match Order::try_from([3, 12].as_slice()) {
         Ok(Order::Pack(most)) => assert_eq!(rt; most, 12),
         _ => return Err(Fail::new("no pack")),
     }
-    match Order::from_numbers(&[0, 2, 1, 5, 4, 7]) {
+    match Order::try_from([0, 2, 1, 5, 4, 7].as_slice()) {
         Ok(Order::Insert(lent)) => {
             assert!(rt; lent == [1, 5, 4, 7].as_slice());
             Ok(())

@@ -1,31 +1,26 @@
-use Rattle.std.proofs.Common.{◌+◌, Ok, Err, vec_items, sym, ap, ◌∙◌, arith}
-use Rattle.std.proofs.lemmas.Result.{err_from_is_err_and}
-use Rattle.rows.specs.declared.row.Row.{Row}
+use Rattle.std.proofs.Common.{Ok, ◌∙◌, ap, vec_items, arith}
+use Rattle.std.specs.Iterator.Adapters.{enumerate_count}
 use Rattle.rows.specs.Numbers.{lent_rows}
-use Rattle.rows.proofs.Unless.{unless_out_from}
-use Rattle.rows.proofs.Lent.{and_then_same, rows_left, rows_more, rows_stop, rows_all}
+use Rattle.rows.proofs.Lent.{read_more, read_all}
 use Rattle.rows.proofs.Orders.{outcome_so_far, one_row_in, all_rows_in, insert_applied}
 use Rattle.rows.proofs.apply.inserted.Goals as goal
 
-pub returns-in_err-row : goal.returns-in_err-row
-returns-in_err-row c =
-    let p = err_from_is_err_and c.from_residual-in_err-row.result c.from_residual-in_err-row.ensures.1 in
-    let lent = c.args.lent.now in
-    let stop = rows_stop lent c.loop-i.i (outcome_so_far (vec_items c.loop-i.all) c.loop-i.i) _ (omega arith) c.in_err-row.ensures in
-    rw (p.1, p.2) (unless_out_from {A = Row} (Err c.in_err-row.field-0.0) _ (stop ∙ c.loop-i.invariant ∙ insert_applied (lent_rows lent) c.args.rows.now))
-
 pub loop-i-preserved : goal.loop-i-preserved
 loop-i-preserved c =
-    let lent = c.args.lent.now in
+    let next = c.in-Some.ensures.steps in
     let all = vec_items c.loop-i.all in
-    let row = c.in_ok-row.row in
-    let push = c.in_ok-push.ensures.items in
-    and_then_same (rows_left lent (c.loop-i.i + 1)) _ _ (λ rs. ap Ok (one_row_in all (vec_items c.push.new.self) c.loop-i.i row rs push))
-    ∙ rows_more lent c.loop-i.i (outcome_so_far all c.loop-i.i) row (omega arith) c.in_ok-row.ensures
-    ∙ c.loop-i.invariant
+    let i = enumerate_count c.loop-i.i-iterator in
+    read_more c.args.lent.now c.loop-i.i-iterator c.next.new.self c.in-Some.i c.in-Some.pair (outcome_so_far all i) (outcome_so_far c.args.rows.now 0) c.loop-i.invariant next
+    (outcome_so_far (vec_items c.push.new.self) (enumerate_count c.next.new.self)) c.in_ok-row.row c.in_ok-row.ensures
+    (λ rs. ap (λ n. outcome_so_far (vec_items c.push.new.self) n rs) next.2 ∙ one_row_in all (vec_items c.push.new.self) i c.in_ok-row.row rs c.in_ok-push.ensures.items)
 
 pub returns : goal.returns
 returns c =
     let lent = c.args.lent.now in
     let all = vec_items c.loop-i.all in
-    ap Ok (all_rows_in all c.loop-i.i _ (omega arith)) ∙ sym (rows_all lent c.loop-i.i (outcome_so_far all c.loop-i.i) (omega arith)) ∙ c.loop-i.invariant ∙ insert_applied (lent_rows lent) c.args.rows.now
+    let i = enumerate_count c.loop-i.i-iterator in
+    let end = c.in-None.ensures.steps.0.1.0 in
+    let read = c.loop-i.invariant in
+    ap Ok (all_rows_in all i c.div_ceil.result (omega (arith, end, read.1, read.2, c.div_ceil.ensures)))
+    ∙ read_all lent c.loop-i.i-iterator (outcome_so_far all i) (outcome_so_far c.args.rows.now 0) read end
+    ∙ insert_applied (lent_rows lent) c.args.rows.now

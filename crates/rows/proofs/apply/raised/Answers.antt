@@ -1,17 +1,12 @@
-use Rattle.std.proofs.Common.{vec_items, sym, refl, ◌∙◌, arith}
+use Rattle.std.proofs.Common.{vec_items, refl, ◌∙◌, arith}
 use Rattle.rows.specs.Rows.{raised}
 use Rattle.rows.proofs.Rows.{raised_more}
-use Rattle.rows.proofs.Orders.{raise_applied, raise_refused, limit_more, limit_met}
+use Rattle.rows.proofs.Orders.{raise_applied, limit_more}
 use Rattle.rows.proofs.apply.raised.Goals as goal
 
 pub loop-row-init : goal.loop-row-init
 unfolding raised
 loop-row-init c = (c.new-all.ensures.items, refl)
-
-pub returns-in_default : goal.returns-in_default
-returns-in_default c =
-    let met = limit_met c.args.span c.args.by c.args.rows.now c.loop-row.row-index _ (omega arith) c.in_default.ensures in
-    raise_refused c.args.span c.args.by c.args.rows.now (sym c.loop-row.invariant.1 ∙ met)
 
 pub loop-row-preserved : goal.loop-row-preserved
 loop-row-preserved c =
@@ -27,4 +22,4 @@ loop-row-preserved c =
 pub returns : goal.returns
 returns c =
     let inv = c.loop-row.invariant in
-    raise_applied c.args.span c.args.rows.now (vec_items c.loop-row.all) c.loop-row.row-index c.count_within.result (omega arith) c.count_within.ensures c.args.by inv.0 inv.1
+    raise_applied c.args.span c.args.by c.args.rows.now (vec_items c.loop-row.all) c.loop-row.row-index c.count_within.result (omega arith) c.count_within.ensures inv.0 inv.1
