@@ -3,9 +3,10 @@ ghost use Rattle.std.specs.Prelude.{◌≡◌, ◌%◌, ◌^◌, length, if◌th
 ghost use Rattle.store.specs.Export.{header_words};
 ghost use Rattle.store.specs.Import.{out_at, bounded, header_at, header_in};
 
-use crate::limits::{MOST_HORIZON, MOST_ROWS, NUMBER_LIMIT};
+use crate::limits::{MOST_ROWS, NUMBER_LIMIT};
 use crate::unread::Unread;
 use codec::words::word_from;
+use rows::horizon::MOST_HORIZON;
 use rows::refusal::LOG_LIMIT;
 
 // What the header says of a store: its four numbers, how many slots it has, and how many files and entries follow.

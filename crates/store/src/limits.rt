@@ -1,9 +1,6 @@
 // The bounds of a store's numbers, besides `LOG_LIMIT`, the most entries.
 use codec::file;
 
-// The largest horizon.
-pub(crate) const MOST_HORIZON: u64 = 4096;
-
 // File numbers stay below 2^32.
 pub(crate) const NUMBER_LIMIT: u64 = 1 << 32;
 
