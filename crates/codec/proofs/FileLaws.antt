@@ -1,8 +1,8 @@
 -- Files come back, are one, and have their rows where they lie.
-use Rattle.std.proofs.Common.{◌≡◌, ℕ, zero, suc, ◌+◌, ◌*◌, ◌^◌, ◌<◌, ◌≤◌, true, cond, ltb, ◌⊎◌, List, [], ◌∷◌, ◌++◌, length, get_or, take, drop, Some, None, sym, refl, ap, ◌∙◌, inl, inr, arith}
+use Rattle.std.proofs.Common.{◌≡◌, ℕ, zero, suc, ◌+◌, ◌*◌, ◌/◌, ◌^◌, ◌<◌, ◌≤◌, true, cond, ltb, ◌⊎◌, List, [], ◌∷◌, ◌++◌, length, get_or, take, drop, Some, None, sym, refl, ap, ◌∙◌, inl, inr, arith}
 use Rattle.std.specs.List.{slice_get}
 use Rattle.std.proofs.ByRecursion.{All-get_or}
-use Rattle.std.proofs.lemmas.List.{length-drop}
+use Rattle.std.proofs.lemmas.List.{drop-take, length-drop}
 use Rattle.std.proofs.lemmas.Option.{slice_get-get_or, slice_get_past}
 use Rattle.std.proofs.lemmas.Bool.{and_parts, and_from, ltb-true, lt-ltb, le-leb, leb-true, cases_lt}
 use Rattle.std.proofs.lemmas.Bool.Decides.{nat_tests}
@@ -14,11 +14,12 @@ use Rattle.codec.specs.declared.file.Head.{Head}
 use Rattle.codec.specs.Bounds.{is_key, is_word}
 use Rattle.codec.specs.Bounds.{every}
 use Rattle.codec.specs.FileLaws.{FilesComeBack, FilesAreOne, RowsAreThere}
-use Rattle.codec.specs.Files.{File, file, row_fits, count_fits, file_fits, row_words, pairs, file_words, file_bytes, head_in, with_rows, file_from, file_in, row_in}
+use Rattle.codec.specs.Files.{File, file, row_fits, count_fits, file_fits, row_words, pairs, file_words, file_bytes, head_in, with_rows, file_from, file_in, row_in, fitting, rows_from}
 use Rattle.codec.specs.Seals.{sealed_bytes, unsealed}
 use Rattle.codec.specs.Words.{AreWords, words_of}
 use Rattle.codec.proofs.BoundLaws.{every_at, some_of_else}
 use Rattle.codec.proofs.FileReads.{rows_at, length_pairs, row_in_at, row_missing, file_unsealed}
+use Rattle.codec.proofs.WordLaws.{length_words}
 use Rattle.codec.proofs.SealLaws.{cond_some, length_sealed_bytes, unsealed_sealed, sealed_unsealed, sealing}
 
 -- rows as numbers, and back
@@ -193,3 +194,29 @@ rows_are_there xs f e i = go (rows_of_file xs f e) (cases_lt i (length f.rows))
         ∙ ap (λ b. cond b (Some (get_or f.rows i d)) None) (every_at row_fits f.rows i d p.2 h)
         ∙ sym (slice_get-get_or f.rows i d h)
     go p (inr h) = sym (row_missing xs i (omega (arith, p.0))) ∙ sym (slice_get_past f.rows i h)
+
+-- the rows that a file's bytes give one by one are its rows
+fitting_all : (rs : List Row) → every row_fits rs ≡ true → fitting rs ≡ rs
+fitting_all [] e = refl
+fitting_all (r ∷ rs) e =
+    let p = and_parts (row_fits r) (every row_fits rs) e in
+    rw (p.0, fitting_all rs p.1)
+
+pairs_but_last : (n : ℕ) (vs : List ℕ) → length vs ≡ 2 * n + 1 → pairs (take (2 * n) vs) ≡ pairs vs
+pairs_but_last zero [] h = absurd (omega arith)
+pairs_but_last zero (a ∷ []) h = refl
+pairs_but_last zero (a ∷ b ∷ vs) h = absurd (omega arith)
+pairs_but_last (suc n) [] h = absurd (omega arith)
+pairs_but_last (suc n) (a ∷ []) h = absurd (omega arith)
+pairs_but_last (suc n) (a ∷ b ∷ vs) h =
+    let two : 2 * suc n ≡ suc (suc (2 * n)) = omega arith in
+    ap (λ k. pairs (take k (a ∷ b ∷ vs))) two ∙ ap (λ l. row a b ∷ l) (pairs_but_last n vs (omega arith))
+
+pub rows_from_file : (xs : List ℕ) (f : File) → file_in xs ≡ Some f → rows_from xs ≡ f.rows
+rows_from_file xs f e =
+    let p = rows_of_file xs f e in
+    let n = length f.rows in
+    let W = words_of xs in
+    let long : length (drop 3 W) ≡ 2 * n + 1 = length-drop 3 W ∙ omega (arith, p.0, length_words (length xs / 8) xs) in
+    let same : f.rows ≡ pairs (drop 3 W) = p.1 ∙ ap pairs (drop-take 3 (2 * n) W) ∙ pairs_but_last n (drop 3 W) long in
+    ap fitting (sym same) ∙ fitting_all f.rows p.2

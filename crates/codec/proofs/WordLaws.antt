@@ -205,11 +205,14 @@ get_or_first_chunks k (suc n) xs (suc i) d h =
 pub numbers_front : (n j : ℕ) (ws head : List (List ℕ)) → head ≡ take n ws → j < n → le (get_or head j []) ≡ get_or (numbers ws) j 0
 numbers_front n j ws head e h = ap (λ l. le (get_or l j [])) e ∙ ap le (get_or-take n ws j [] h) ∙ get_or_numbers ws j
 
+pub get_or_chunk : {A : Type 0} (k n i j : ℕ) (xs : List A) (chunks : List (List A)) (d : List A) (e : A) → chunks ≡ first_chunks k n xs → i < n → j < k → get_or (get_or chunks i d) j e ≡ get_or xs (k * i + j) e
+get_or_chunk k n i j xs chunks d e are h l =
+    ap (λ c. get_or (get_or c i d) j e) are ∙ ap (λ c. get_or c j e) (get_or_first_chunks k n xs i d h)
+    ∙ get_or-take k (drop (k * i) xs) j e l ∙ get_or-drop (k * i) xs j e
+
 pub numbers_chunk : (k n i j : ℕ) (ws : List (List ℕ)) (chunks : List (List (List ℕ))) (d : List (List ℕ)) → chunks ≡ first_chunks k n ws → i < n → j < k
     → le (get_or (get_or chunks i d) j []) ≡ get_or (numbers ws) (k * i + j) 0
-numbers_chunk k n i j ws chunks d e h l =
-    ap (λ c. le (get_or (get_or c i d) j [])) e ∙ ap (λ c. le (get_or c j [])) (get_or_first_chunks k n ws i d h)
-    ∙ ap le (get_or-take k (drop (k * i) ws) j [] l ∙ get_or-drop (k * i) ws j []) ∙ get_or_numbers ws (k * i + j)
+numbers_chunk k n i j ws chunks d are h l = ap le (get_or_chunk k n i j ws chunks d [] are h l) ∙ get_or_numbers ws (k * i + j)
 
 -- a sum taken modulo 2^64 at each number
 folded_from : (ws : List (List ℕ)) (t : ℕ) → t < 2 ^ 64 → fold (λ t w. (t + le w) % 2 ^ 64) t ws ≡ (t + sum (numbers ws)) % 2 ^ 64

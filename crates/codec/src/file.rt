@@ -2,8 +2,9 @@
 ghost use Rattle.std.specs.Prelude.{◌≡◌, drop, map, is_some};
 ghost use Rattle.std.specs.List.{list_all};
 ghost use Rattle.std.specs.Option.{option_map};
+ghost use Rattle.std.specs.Iterator.{YieldsFirst, item_count};
 ghost use Rattle.codec.specs.Words.{numbers, words_of};
-ghost use Rattle.codec.specs.Files.{pairs, head_from, head_in, head_of, file_in, row_of, row_in, row_read, row_fitting};
+ghost use Rattle.codec.specs.Files.{pairs, head_from, head_in, head_of, file_in, row_of, row_in, row_read, row_fitting, rows_left, rows_from};
 
 use crate::seal::unseal;
 use crate::words::{Word, number};
@@ -76,6 +77,38 @@ fn row_from(pair: &[Word; 2]) -> Option<Row>
     ensures { result ≡ row_fitting (row_read pair.now) }
 {
     row_of(number(&pair[0]), number(&pair[1]))
+}
+
+// The rows of a file one by one, where they lie.
+#[derive(Clone, Copy)]
+pub struct Rows<'a> {
+    left: &'a [[Word; 2]],
+}
+
+impl<'a> Rows<'a> {
+    // All rows of a file; of other bytes those before the first that is out of its bounds.
+    pub fn of(bytes: &'a [u8]) -> Rows<'a>
+        ensures { rows_left result ≡ rows_from bytes.now }
+    {
+        Rows {
+            left: pairs_in(bytes.as_chunks().0),
+        }
+    }
+}
+
+impl<'a> Iterator for Rows<'a> {
+    type Item = Row;
+
+    ghost next_gives = { YieldsFirst rows_left };
+
+    ghost remaining = { item_count rows_left };
+
+    fn next(&mut self) -> Option<Row> {
+        let (pair, left) = self.left.split_first()?;
+        let row = row_from(pair)?;
+        self.left = left;
+        Some(row)
+    }
 }
 
 // The i-th row of a file, where it lies; none where there is none or it is out of its bounds.
