@@ -89,9 +89,6 @@ module _ (xs : List ℕ) (c : ℕ) (whole : 8 * (3 + 2 * c) + 8 ≡ length xs) w
   long_front : length (drop 3 (take (3 + 2 * c) (words_of xs))) ≡ 2 * c
   long_front = length-drop 3 (take (3 + 2 * c) (words_of xs)) ∙ omega (arith, length-take-le (3 + 2 * c) (words_of xs) (omega (arith, long_words)))
 
-  pub length_rows_at : length (rows_at xs c) ≡ c
-  length_rows_at = length_pairs c (drop 3 (take (3 + 2 * c) (words_of xs))) long_front
-
   pub getD_rows_at : (i : ℕ) (d : Row) → i < c → get_or (rows_at xs c) i d ≡ row (get_or (words_of xs) (3 + 2 * i) 0) (get_or (words_of xs) (4 + 2 * i) 0)
   getD_rows_at i d h =
       let vs = drop 3 (take (3 + 2 * c) (words_of xs)) in

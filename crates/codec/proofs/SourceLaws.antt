@@ -68,9 +68,6 @@ survey_all_many w xs t ps h = by (every (is_source xs t) ps) (refuses w (source_
 
 module _ (w : Rewrite) (xs : List ℕ) (t : Part) (ps : List Part) (i n : ℕ) (inv : Surveyed w xs t ps i n) where
   module _ (d : Part) (h : i < length ps) where
-    rows_here : List Row
-    rows_here = rows_in (part_in (get_or ps i d) xs)
-
     left : source_rows xs (drop i ps) ≡ rows_in (part_in (get_or ps i d) xs) ++ source_rows xs (drop (i + 1) ps)
     left = at_drop_more (source_rows xs) ps i d h
 

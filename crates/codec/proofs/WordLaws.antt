@@ -2,7 +2,7 @@
 use Rattle.std.proofs.Common.{◌≡◌, ℕ, zero, suc, ◌+◌, ◌-◌, ◌*◌, ◌/◌, ◌%◌, ◌^◌, ◌<◌, ◌≤◌, leb, List, [], ◌∷◌, ◌++◌, length, get_or, take, drop, Some, sum, sym, refl, ap, ◌∙◌, pow-suc, arith}
 use native.Mathlib.Nat.{div-div-eq-div-mul}
 use borrow.Rule.Slice.PartMut.{put_mid}
-use Rattle.std.proofs.lemmas.List.{get_or-take, get_or-drop, append-nil, append_assoc, drop-drop, drop_all, drop-append-le, drop_at, drop-take, length-append, length-take, length-take-le, length-drop, take_at, take-append-drop, take-append-le, take_more, take_rest, take-take}
+use Rattle.std.proofs.lemmas.List.{get_or-take, get_or-drop, append-nil, append_assoc, drop-drop, drop_all, drop_at, drop-take, length-append, length-take, length-take-le, length-drop, take_at, take-append-drop, take-append-le, take_more, take_rest, take-take}
 use Rattle.std.proofs.ByRecursion.{All-take, All-drop}
 use Rattle.std.proofs.lemmas.List.Sums.{sum_by-cons}
 use Rattle.std.proofs.Math.Nat.{mul-suc}
@@ -157,31 +157,6 @@ bytes_words (suc n) xs a h =
     let d : length (drop 8 xs) ≡ 8 * n = length-drop 8 xs ∙ omega arith in
     ap (λ l. l ++ bytes_of (words n (drop 8 xs))) (bytes_le_le 8 (take 8 xs) (All-take (λ b. b < 256) 8 xs a) m)
     ∙ ap (λ l. take 8 xs ++ l) (bytes_words n (drop 8 xs) (All-drop (λ b. b < 256) 8 xs a) d) ∙ take-append-drop 8 xs
-
--- the numbers of a part of bytes are a part of the numbers
-words_append : (n : ℕ) (xs ys : List ℕ) → 8 * n ≤ length xs → words n (xs ++ ys) ≡ words n xs
-unfolding words
-words_append zero xs ys h = refl
-words_append (suc n) xs ys h =
-    ap (λ l. le l ∷ words n (drop 8 (xs ++ ys))) (take-append-le 8 xs ys (omega arith)) ∙ ap (λ l. le (take 8 xs) ∷ words n l) (drop-append-le 8 xs ys (omega arith))
-    ∙ ap (λ l. le (take 8 xs) ∷ l) (words_append n (drop 8 xs) ys (omega (arith, length-drop 8 xs)))
-
-drop_words : (k m n : ℕ) (xs : List ℕ) → n ≡ k + m → drop k (words n xs) ≡ words m (drop (8 * k) xs)
-unfolding words
-drop_words zero m n xs h = ap (λ j. words j xs) (h ∙ omega arith)
-drop_words (suc k) m zero xs h = absurd (omega arith)
-drop_words (suc k) m (suc n) xs h = drop_words k m n (drop 8 xs) (omega arith) ∙ ap (words m) (drop-drop (8 * k) 8 xs ∙ ap (λ j. drop j xs) (omega arith))
-
-pub words_drop : (a : ℕ) (xs : List ℕ) → 8 * a ≤ length xs → words_of (drop (8 * a) xs) ≡ drop a (words_of xs)
-words_drop a xs h =
-    let n = length-drop (8 * a) xs in
-    sym (drop_words a (length (drop (8 * a) xs) / 8) (length xs / 8) xs (omega arith))
-
-pub words_take : (m : ℕ) (xs : List ℕ) → 8 * m ≤ length xs → words_of (take (8 * m) xs) ≡ take m (words_of xs)
-words_take m xs h =
-    let n = length-take-le (8 * m) xs h in
-    ap (λ j. words j (take (8 * m) xs)) (omega arith) ∙ sym (words_append m (take (8 * m) xs) (drop (8 * m) xs) (omega arith))
-    ∙ ap (words m) (take-append-drop (8 * m) xs) ∙ sym (take_words m (length xs / 8) xs (omega arith))
 
 -- bytes cut into numbers
 pub chunk_numbers : (n : ℕ) (xs : List ℕ) → numbers (first_chunks 8 n xs) ≡ words n xs

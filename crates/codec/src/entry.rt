@@ -220,8 +220,8 @@ fn read_adds(heap: Global, words: &[Word]) -> Result<Option<Vec<Added>>, AllocEr
     ensures { IfOk result (λ o. option_map vec_items o ≡ adds_in (numbers words.now)) }
 {
     let mut adds = Vec::new(heap);
-    for file in words.as_chunks::<3>().0 {
-        let Some(added) = added_from(number(&file[0]), number(&file[1]), number(&file[2])) else {
+    for [file, from, to] in words.as_chunks::<3>().0 {
+        let Some(added) = added_from(number(file), number(from), number(to)) else {
             return Ok(None);
         };
         adds.push(added)?;
@@ -245,23 +245,19 @@ fn read_takes(heap: Global, words: &[Word]) -> Result<Option<Vec<u32>>, AllocErr
 fn read_change(heap: Global, words: &[Word]) -> Result<Option<Change>, AllocError>
     ensures { IfOk result (λ o. option_map change_of o ≡ change_from (numbers words.now)) }
 {
-    let Some((head, files)) = words.split_first_chunk::<7>() else {
+    let Some(([kind, a, b, c, touched, adds, takes], files)) = words.split_first_chunk::<7>() else {
         return Ok(None);
     };
-    let many_adds = number(&head[5]);
+    let many_adds = number(adds);
+    let many_takes = number(takes);
     if many_adds > files.len() as u64 / 3 {
         return Ok(None);
     }
     let (adds, takes) = files.split_at(3 * many_adds as usize);
-    if number(&head[6]) != takes.len() as u64 {
+    if many_takes != takes.len() as u64 {
         return Ok(None);
     }
-    let Ok(action) = Action::try_from([
-        number(&head[0]),
-        number(&head[1]),
-        number(&head[2]),
-        number(&head[3]),
-    ]) else {
+    let Ok(action) = Action::try_from([number(kind), number(a), number(b), number(c)]) else {
         return Ok(None);
     };
     let Some(adds) = read_adds(heap, adds)? else {
@@ -272,7 +268,7 @@ fn read_change(heap: Global, words: &[Word]) -> Result<Option<Change>, AllocErro
     };
     Ok(Some(Change {
         action,
-        touched: number(&head[4]),
+        touched: number(touched),
         adds,
         takes,
     }))
@@ -285,10 +281,10 @@ pub fn read_entry(heap: Global, bytes: &[u8]) -> Result<Option<Entry>, Refusal>
     let Some(words) = unseal(bytes) else {
         return Ok(None);
     };
-    let Some((head, words)) = words.split_first_chunk::<3>() else {
+    let Some(([place, writer, serial], words)) = words.split_first_chunk::<3>() else {
         return Ok(None);
     };
-    let writer = number(&head[1]);
+    let writer = number(writer);
     if writer >= WRITERS as u64 {
         return Ok(None);
     }
@@ -296,9 +292,9 @@ pub fn read_entry(heap: Global, bytes: &[u8]) -> Result<Option<Entry>, Refusal>
         return Ok(None);
     };
     Ok(Some(Entry {
-        place: number(&head[0]),
+        place: number(place),
         writer: writer as u8,
-        serial: number(&head[2]),
+        serial: number(serial),
         change,
     }))
 }

@@ -76,7 +76,8 @@ fn pairs_in(words: &[Word]) -> &[[Word; 2]]
 fn row_from(pair: &[Word; 2]) -> Option<Row>
     ensures { result ≡ row_fitting (row_read pair.now) }
 {
-    row_of(number(&pair[0]), number(&pair[1]))
+    let [key, amount] = pair;
+    row_of(number(key), number(amount))
 }
 
 // The rows of a file one by one, where they lie.

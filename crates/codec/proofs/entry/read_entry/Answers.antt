@@ -18,7 +18,7 @@ returns-in_default-split_first_chunk c =
 pub returns-then-writer : goal.returns-then-writer
 returns-then-writer c =
     let ws = c.in-Some.words.now in
-    let writer = c.number-writer.ensures ∙ numbers_front 3 1 ws c.in-Some-split_first_chunk.head.now c.in-Some-split_first_chunk.ensures.cases.0 (omega arith) in
+    let writer = c.number-writer.ensures ∙ numbers_front 3 1 ws c.in-Some-split_first_chunk.field-0-0.now c.in-Some-split_first_chunk.ensures.cases.0 (omega arith) in
     ap Ok (entry_no_writer c.args.bytes.now (numbers ws) (sym c.in-Some.ensures) (omega (arith, writer)))
 
 pub returns-in_default-2 : goal.returns-in_default-2
@@ -30,7 +30,7 @@ returns-in_default-2 c =
 pub returns : goal.returns
 returns c =
     let ws = c.in-Some.words.now in
-    let head = c.in-Some-split_first_chunk.head.now in
+    let head = c.in-Some-split_first_chunk.field-0-0.now in
     let parts = c.in-Some-split_first_chunk.ensures.cases in
     let at = λ (j : ℕ) (h : j < 3). numbers_front 3 j ws head parts.0 h in
     let rest = ap (λ l. change_from (numbers l)) parts.1 ∙ ap change_from (sym (drop-map le 3 ws)) in
