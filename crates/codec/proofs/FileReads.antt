@@ -1,9 +1,9 @@
 -- Files as they are read: the head, and the rows one by one.
-use Rattle.std.proofs.Common.{◌≡◌, ℕ, zero, suc, ◌+◌, ◌-◌, ◌*◌, ◌/◌, ◌<◌, ◌≤◌, min, Bool, true, false, cond, List, [], ◌∷◌, length, get_or, take, drop, map, is_some, Some, None, sym, refl, ap, ◌∙◌, arith}
+use Rattle.std.proofs.Common.{◌≡◌, ℕ, zero, suc, ◌+◌, ◌-◌, ◌*◌, ◌/◌, ◌<◌, ◌≤◌, min, Bool, true, false, cond, List, [], ◌∷◌, length, get_or, drop, map, is_some, Some, None, sym, refl, ap, ◌∙◌, arith}
 use Rattle.std.specs.List.{list_all}
 use Rattle.std.specs.Simd.{first_chunks}
 use Rattle.std.specs.Option.{option_map}
-use Rattle.std.proofs.lemmas.List.{length-drop, length-take-le, get_or-drop, get_or-take}
+use Rattle.std.proofs.lemmas.List.{length-drop, get_or-drop}
 use Rattle.std.proofs.lemmas.Bool.{le-leb, lt-leb}
 use Rattle.std.proofs.lemmas.Bool.Decides.{nat_tests}
 use Rattle.rows.specs.declared.row.Row.{Row}
@@ -13,9 +13,8 @@ use Rattle.codec.specs.declared.file.Head.{Head}
 use Rattle.codec.specs.Bounds.{every}
 use Rattle.codec.specs.Files.{row_fits, row_read, row_fitting, pairs, head_in, head_of, file, row_in, with_rows, file_from, file_in}
 use Rattle.codec.specs.Seals.{unsealed}
-use Rattle.codec.specs.Words.{le, numbers, words_of}
+use Rattle.codec.specs.Words.{le, numbers}
 use Rattle.codec.proofs.BoundLaws.{is_some_cond}
-use Rattle.codec.proofs.WordLaws.{length_words}
 
 -- rows of numbers
 pub length_pairs : (n : ℕ) (vs : List ℕ) → length vs ≡ 2 * n → length (pairs vs) ≡ n
@@ -77,32 +76,6 @@ module _ (ws : List ℕ) (i : ℕ) where
       ∙ ap (λ k. row k (get_or (drop 3 ws) (1 + 2 * i) 0)) (get_or-drop 3 ws (2 * i) 0)
       ∙ ap (λ a. row (get_or ws (3 + 2 * i) 0) a) (get_or-drop 3 ws (1 + 2 * i) 0 ∙ ap (λ k. get_or ws k 0) (omega arith)) in
       cc
-
--- the rows of a file, one by one
-abbrev pub rows_at : List ℕ → ℕ → List Row
-rows_at xs c = pairs (drop 3 (take (3 + 2 * c) (words_of xs)))
-
-module _ (xs : List ℕ) (c : ℕ) (whole : 8 * (3 + 2 * c) + 8 ≡ length xs) where
-  long_words : length (words_of xs) ≡ 4 + 2 * c
-  long_words = length_words (length xs / 8) xs ∙ omega arith
-
-  long_front : length (drop 3 (take (3 + 2 * c) (words_of xs))) ≡ 2 * c
-  long_front = length-drop 3 (take (3 + 2 * c) (words_of xs)) ∙ omega (arith, length-take-le (3 + 2 * c) (words_of xs) (omega (arith, long_words)))
-
-  pub getD_rows_at : (i : ℕ) (d : Row) → i < c → get_or (rows_at xs c) i d ≡ row (get_or (words_of xs) (3 + 2 * i) 0) (get_or (words_of xs) (4 + 2 * i) 0)
-  getD_rows_at i d h =
-      let vs = drop 3 (take (3 + 2 * c) (words_of xs)) in
-      let at : (k : ℕ) → k < 2 * c → get_or (drop 3 (take (3 + 2 * c) (words_of xs))) k 0 ≡ get_or (words_of xs) (3 + k) 0 =
-      λ k l. get_or-drop 3 (take (3 + 2 * c) (words_of xs)) k 0 ∙ get_or-take (3 + 2 * c) (words_of xs) (3 + k) 0 (omega arith) in
-      getD_pairs vs i d (omega (arith, long_front))
-      ∙ ap (λ k. row k (get_or (drop 3 (take (3 + 2 * c) (words_of xs))) (1 + 2 * i) 0)) (at (2 * i) (omega arith))
-      ∙ ap (λ a. row (get_or (words_of xs) (3 + 2 * i) 0) a) (at (1 + 2 * i) (omega arith) ∙ ap (λ k. get_or (words_of xs) k 0) (omega arith))
-
-  pub row_in_at : (i : ℕ) (d : Row) → i < c → row_in (words_of xs) i ≡ cond (row_fits (get_or (rows_at xs c) i d)) (Some (get_or (rows_at xs c) i d)) None
-  row_in_at i d h = let e = getD_rows_at i d h in let t = le-leb (5 + 2 * i) (length (words_of xs)) (omega (arith, long_words)) in cc
-
-pub row_missing : (xs : List ℕ) (i : ℕ) → length xs / 8 < 5 + 2 * i → None ≡ row_in (words_of xs) i
-row_missing xs i h = rw (lt-leb (5 + 2 * i) (length (words_of xs)) (omega (arith, length_words (length xs / 8) xs)))
 
 -- the whole of a file
 pub file_unsealed : (xs ws : List ℕ) → unsealed xs ≡ Some ws → file_in xs ≡ file_from ws

@@ -35,8 +35,8 @@ fn lent_keys(lent: &[u64]) -> Option<Span>
     ensures { result ≡ lent_keys lent.now }
 {
     let mut keys = NO_KEYS;
-    for pair in lent.as_chunks::<2>().0 {
-        let row = row_of(pair[0], pair[1])?;
+    for &[key, amount] in lent.as_chunks::<2>().0 {
+        let row = row_of(key, amount)?;
         keys = widened(keys, row.key);
     }
     Some(keys)
