@@ -1,5 +1,5 @@
 -- Actions as a kind and three numbers: 0 insert, 1 erase from to, 2 raise from to n, 3 pack m; those not used are 0.
-use Rattle.std.specs.Prelude.{◌≡◌, Result, slice_index_or, ℕ, zero, suc, Bool, true, cond, ◌&&◌, List, [], ◌∷◌, Some, None, Option, ◌==◌}
+use Rattle.std.specs.Prelude.{◌≡◌, ℕ, zero, suc, Bool, true, cond, ◌&&◌, List, [], ◌∷◌, Some, None, Option, Result, ◌==◌, slice_index_or}
 use Rattle.std.specs.Result.{result_ok}
 use Rattle.rows.specs.declared.span.Span.{Span}
 use Rattle.codec.specs.declared.action.Action.{Action}
@@ -31,9 +31,9 @@ action_in (suc (suc (suc zero))) a b c = cond (b == 0 && c == 0) (Some (Pack a))
 action_in (suc (suc (suc (suc k)))) a b c = None
 
 -- the numbers of an action, and that it is in its bounds
-abbrev pub AreWords : Action → List ℕ → Type 0
-AreWords o ws = (ws ≡ action_words o) × (action_fits o ≡ true)
+abbrev pub HasWords : Action → List ℕ → Type 0
+HasWords o ws = (ws ≡ action_words o) × (action_fits o ≡ true)
 
 -- the action that four numbers are, or that they are none
-abbrev pub Reads : List ℕ → Result Action NoAction → Type 0
-Reads ws r = result_ok r ≡ action_in (slice_index_or ws 0 0) (slice_index_or ws 1 0) (slice_index_or ws 2 0) (slice_index_or ws 3 0)
+abbrev pub ReadsAs : List ℕ → Result Action NoAction → Type 0
+ReadsAs ws r = result_ok r ≡ action_in (slice_index_or ws 0 0) (slice_index_or ws 1 0) (slice_index_or ws 2 0) (slice_index_or ws 3 0)

@@ -6,10 +6,9 @@ use Rattle.rows.specs.Numbers.{row}
 use Rattle.rows.specs.Rows.{amount_limit}
 use Rattle.codec.specs.declared.file.Head.{Head}
 use Rattle.codec.specs.declared.file.Rows.{Rows}
-use Rattle.codec.specs.Bounds.{is_key, is_word}
-use Rattle.codec.specs.Bounds.{every}
-use Rattle.codec.specs.Words.{le, words_of}
+use Rattle.codec.specs.Bounds.{is_key, is_word, every}
 use Rattle.codec.specs.Seals.{sealed_bytes, unsealed}
+use Rattle.codec.specs.Words.{le, words_of}
 
 pub record File : Type 0 where
   pub number : ℕ

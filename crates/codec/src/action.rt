@@ -1,7 +1,7 @@
 // What an entry says was done to the rows.
-ghost use Rattle.codec.specs.Actions.{AreWords, Reads};
-ghost use Rattle.codec.specs.Bounds.{is_key};
 ghost use Rattle.std.specs.Prelude.{◌≡◌, ◌&&◌, true, false, MatchResult};
+ghost use Rattle.codec.specs.Bounds.{is_key};
+ghost use Rattle.codec.specs.Actions.{HasWords, ReadsAs};
 
 use rows::span::Span;
 
@@ -20,7 +20,7 @@ pub struct NoAction;
 
 // Kind and three numbers, of which those that the kind does not use are 0.
 impl From<Action> for [u64; 4] {
-    ghost from_gives = { AreWords };
+    ghost from_gives = { HasWords };
 
     fn from(action: Action) -> [u64; 4] {
         match action {
@@ -35,7 +35,7 @@ impl From<Action> for [u64; 4] {
 impl TryFrom<[u64; 4]> for Action {
     type Error = NoAction;
 
-    ghost try_from_gives = { Reads };
+    ghost try_from_gives = { ReadsAs };
 
     fn try_from(words: [u64; 4]) -> Result<Action, NoAction> {
         match words {

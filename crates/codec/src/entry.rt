@@ -7,7 +7,7 @@ ghost use Rattle.rows.specs.Refusals.{UnlessOut};
 ghost use Rattle.codec.specs.Bounds.{is_word};
 ghost use Rattle.codec.specs.Actions.{action_words, action_fits};
 ghost use Rattle.codec.specs.Words.{put_at, bytes_of, numbers};
-ghost use Rattle.codec.specs.Entries.{added_of, added_fits, count_with, files_writable, added_words, adds_in, takes_in, change_of, change_from, entry_of, entry_head, entry_words, writable, front_of, entry_length, entry_written, entry_in, entry_read};
+ghost use Rattle.codec.specs.Entries.{added_of, added_fits, count_with, files_writable, added_words, adds_in, takes_in, change_of, change_from, entry_of, front_of, entry_length, entry_written, entry_in, entry_read};
 
 use crate::action::Action;
 use crate::seal::{put_seal, unseal};

@@ -1,5 +1,5 @@
 // Files written anew from others: one part of the lent memory is read while another is written.
-ghost use Rattle.std.specs.Prelude.{◌≡◌, ◌+◌, ◌*◌, ◌%◌, ◌^◌, ◌≤◌, true, false, [], ◌∷◌, length, take, is_some, sum, MatchOption};
+ghost use Rattle.std.specs.Prelude.{◌≡◌, ◌+◌, ◌*◌, ◌%◌, ◌^◌, ◌≤◌, true, [], ◌∷◌, length, take, is_some, sum, MatchOption};
 ghost use Rattle.codec.specs.Bounds.{every};
 ghost use Rattle.codec.specs.Files.{file_in, row_words};
 ghost use Rattle.codec.specs.Words.{AreWords, put_at, bytes_of, words_of};
@@ -40,7 +40,7 @@ impl Rewrite {
         match self {
             Rewrite::Whole => Some(Some(row)),
             Rewrite::Outside(span) => Some((!span.contains(row.key)).then_some(row)),
-            Rewrite::Raised(span, by) => row.raise_within(span, by).map(|raised| Some(raised)),
+            Rewrite::Raised(span, by) => row.raise_within(span, by).map(Some),
         }
     }
 
