@@ -11,7 +11,7 @@ use Rattle.rows.specs.Checks.{some_else}
 use Rattle.rows.specs.Numbers.{row}
 use Rattle.codec.specs.declared.file.Head.{Head}
 use Rattle.codec.specs.Bounds.{every}
-use Rattle.codec.specs.Files.{row_fits, row_read, row_fitting, pairs, head_in, head_of, file, row_in, with_rows, file_from, file_in}
+use Rattle.codec.specs.Files.{row_fits, row_read, row_fitting, fitting, pairs, head_in, head_of, file, row_in, with_rows, file_from, file_in}
 use Rattle.codec.specs.Seals.{unsealed}
 use Rattle.codec.specs.Words.{le, numbers}
 use Rattle.codec.proofs.BoundLaws.{is_some_cond}
@@ -59,6 +59,14 @@ all_fit (p ∷ ps) =
     let ih = all_fit ps in
     let here = is_some_cond (row_fits (row_read p)) (row_read p) in
     rw (here, ih)
+
+fitting_fewer : (b : Bool) (r : Row) (rs : List Row) (n : ℕ) → length rs ≤ n → length (cond b (r ∷ rs) []) ≤ suc n
+fitting_fewer true r rs n h = omega arith
+fitting_fewer false r rs n h = omega arith
+
+pub fitting_few : (rs : List Row) → length (fitting rs) ≤ length rs
+fitting_few [] = omega arith
+fitting_few (r ∷ rs) = fitting_fewer (row_fits r) r (fitting rs) (length rs) (fitting_few rs)
 
 module _ (ws : List ℕ) (i : ℕ) where
   many : length (pairs (drop 3 ws)) ≡ (length ws - 3) / 2

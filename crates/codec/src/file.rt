@@ -1,5 +1,5 @@
 // Files as bytes: reading them where they lie.
-ghost use Rattle.std.specs.Prelude.{◌≡◌, drop, map, is_some};
+ghost use Rattle.std.specs.Prelude.{◌≡◌, ◌^◌, ◌<◌, length, drop, map, is_some};
 ghost use Rattle.std.specs.List.{list_all};
 ghost use Rattle.std.specs.Option.{option_map};
 ghost use Rattle.std.specs.Iterator.{YieldsFirst, item_count};
@@ -81,7 +81,7 @@ fn row_from(pair: &[Word; 2]) -> Option<Row>
 }
 
 // The rows of a file one by one, where they lie.
-#[derive(Clone, Copy)]
+#[derive(Drop)]
 pub struct Rows<'a> {
     left: &'a [[Word; 2]],
 }
@@ -89,7 +89,8 @@ pub struct Rows<'a> {
 impl<'a> Rows<'a> {
     // All rows of a file; of other bytes those before the first that is out of its bounds.
     pub fn of(bytes: &'a [u8]) -> Rows<'a>
-        ensures { rows_left result ≡ rows_from bytes.now }
+        ensures rows { rows_left result ≡ rows_from bytes.now }
+        ensures bound { length (rows_left result) < 2 ^ 64 }
     {
         Rows {
             left: pairs_in(bytes.as_chunks().0),
