@@ -1,8 +1,9 @@
 -- A test over all of a list, and what is there or not.
-use Rattle.std.proofs.Common.{◌≡◌, ℕ, zero, suc, ◌+◌, ◌<◌, ◌≤◌, Bool, true, false, cond, ◌&&◌, List, [], ◌∷◌, ◌++◌, length, get_or, drop, Some, None, Option, refl, ap, ◌∙◌, arith}
+use Rattle.std.proofs.Common.{◌≡◌, ℕ, zero, suc, ◌+◌, ◌<◌, ◌≤◌, Bool, true, false, cond, ◌&&◌, List, [], ◌∷◌, ◌++◌, length, get_or, drop, is_some, Some, None, Option, refl, ap, ◌∙◌, arith}
 use Rattle.std.proofs.lemmas.List.{at_drop_more, at_drop_all}
 use Rattle.std.proofs.lemmas.Bool.{and_parts, and_from}
 use Rattle.std.specs.Option.{option_map}
+use Rattle.std.specs.Bool.{then_some}
 use Rattle.rows.specs.Checks.{some_else}
 use Rattle.codec.specs.Bounds.{every}
 
@@ -29,6 +30,19 @@ module _ {A : Type 0} (p : A → Bool) (xs : List A) (i : ℕ) where
 
   pub every_end : length xs ≤ i → every p (drop i xs) ≡ true
   every_end h = at_drop_all (every p) xs i h
+
+-- what a test hands on
+pub then_some_of : {A B : Type 0} (f : A → B) (b : Bool) (x : A) → option_map f (then_some b x) ≡ cond b (Some (f x)) None
+then_some_of f true x = refl
+then_some_of f false x = refl
+
+pub then_some_is : {A : Type 0} (b : Bool) (x : A) → then_some b x ≡ cond b (Some x) None
+then_some_is true x = refl
+then_some_is false x = refl
+
+pub is_some_cond : {A : Type 0} (b : Bool) (x : A) → is_some (cond b (Some x) None) ≡ b
+is_some_cond true x = refl
+is_some_cond false x = refl
 
 -- what was made of something that was there
 pub some_of_cond : {A : Type 0} (b : Bool) (o : Option A) (x : A) → cond b o None ≡ Some x → (b ≡ true) × (o ≡ Some x)

@@ -1,17 +1,16 @@
 -- What reading an entry gives, step by step.
-use Rattle.std.proofs.Common.{◌≡◌, ℕ, ◌+◌, ◌-◌, ◌*◌, ◌^◌, ◌<◌, ◌≤◌, Bool, true, false, cond, ltb, leb, List, [], ◌∷◌, ◌++◌, length, get_or, take, drop, Some, None, Option, sym, refl, ap, ◌∙◌, arith}
+use Rattle.std.proofs.Common.{◌≡◌, ℕ, ◌+◌, ◌*◌, ◌^◌, ◌<◌, ◌≤◌, Bool, true, false, cond, ltb, leb, List, [], ◌∷◌, ◌++◌, length, get_or, take, drop, Some, None, Option, sym, refl, ap, ◌∙◌, arith}
 use Rattle.std.specs.Option.{option_map}
-use Rattle.std.proofs.lemmas.List.{append-nil, append_assoc, drop_more, drop_all, drop-drop, drop-take, at_drop_more, at_drop_all, get_or-take, length-take}
+use Rattle.std.proofs.lemmas.List.{drop-map, take-map, append-nil, append_assoc, drop_more, drop_all, at_drop_more, at_drop_all}
 use Rattle.std.proofs.lemmas.Bool.{and_from, and_left, and_right, cond-true, cond-false, eq-eqb, ne_eqb, le-leb, lt-leb, le-ltb, lt-ltb}
 use Rattle.rows.specs.Checks.{some_else}
 use Rattle.codec.specs.declared.action.Action.{Action}
 use Rattle.codec.specs.declared.entry.Added.{Added}
 use Rattle.codec.specs.Bounds.{is_key}
 use Rattle.codec.specs.Actions.{action_in}
-use Rattle.codec.specs.Words.{words_of}
+use Rattle.codec.specs.Words.{le, numbers}
 use Rattle.codec.specs.Seals.{unsealed}
 use Rattle.codec.specs.Entries.{TableChange, LogEntry, added_of, added_fits, adds_in, takes_in, change_made, is_whole, change_from, entry_from, entry_in}
-use Rattle.codec.proofs.WordLaws.{words_part, words_rest}
 use Rattle.codec.proofs.SealLaws.{cond_some}
 
 -- what a loop has read, and what is left to read
@@ -37,7 +36,7 @@ pub takes_all_in : (ws old : List ℕ) (i : ℕ) → length ws ≤ i → behind 
 takes_all_in ws old i h inv = ap Some (sym (append-nil old)) ∙ ap (behind old) (sym (at_drop_all takes_in ws i h)) ∙ inv
 
 -- added files, three numbers to each
-module _ (ws : List ℕ) (i n a b : ℕ) (h : 3 * i + 3 ≤ length ws) (is_n : n ≡ get_or ws (3 * i) 0) (is_a : a ≡ get_or ws (3 * i + 1) 0) (is_b : b ≡ get_or ws (3 * i + 2) 0) where
+module _ (ws : List ℕ) (i n a b : ℕ) (h : 3 * i + 3 ≤ length ws) (is_n : n ≡ get_or ws (3 * i + 0) 0) (is_a : a ≡ get_or ws (3 * i + 1) 0) (is_b : b ≡ get_or ws (3 * i + 2) 0) where
   abbrev answer : Option (List Added)
   answer = cond (added_fits (added_of n a b)) (option_map (λ l. added_of n a b ∷ l) (adds_in (drop (3 * (i + 1)) ws))) None
 
@@ -46,8 +45,10 @@ module _ (ws : List ℕ) (i n a b : ℕ) (h : 3 * i + 3 ≤ length ws) (is_n : n
       let one = drop_more ws (3 * i) 0 (omega arith) in
       let two = drop_more ws (3 * i + 1) 0 (omega arith) in
       let three = drop_more ws (3 * i + 2) 0 (omega arith) in
+      let z : 3 * i + 0 ≡ 3 * i = omega arith in
       let e : 3 * i + 1 + 1 ≡ 3 * i + 2 = omega arith in
       let f : 3 * i + 2 + 1 ≡ 3 * (i + 1) = omega arith in
+      let first : n ≡ get_or ws (3 * i) 0 = is_n ∙ ap (λ k. get_or ws k 0) z in
       let all : drop (3 * i) ws ≡ n ∷ a ∷ b ∷ drop (3 * (i + 1)) ws = cc in
       ap adds_in all
 
@@ -67,12 +68,13 @@ module _ (ws : List ℕ) (i n a b : ℕ) (h : 3 * i + 3 ≤ length ws) (is_n : n
 pub adds_all_in : (ws : List ℕ) (old : List Added) (i : ℕ) → length ws ≤ 3 * i → behind old (adds_in (drop (3 * i) ws)) ≡ adds_in ws → Some old ≡ adds_in ws
 adds_all_in ws old i h inv = ap Some (sym (append-nil old)) ∙ ap (behind old) (sym (at_drop_all adds_in ws (3 * i) h)) ∙ inv
 
--- the files of a change, as parts of its bytes
-pub adds_part : (xs : List ℕ) (m n : ℕ) (o : Option (List Added)) → n ≡ 8 * (3 * m) → 8 * (7 + 3 * m) ≤ length xs → o ≡ adds_in (words_of (take n (drop 56 xs))) → o ≡ adds_in (take (3 * m) (drop 7 (words_of xs)))
-adds_part xs m n o e h f = f ∙ ap adds_in (words_part xs 7 (3 * m) 56 n refl e h)
+-- the files of a change, as parts of its numbers
+module _ (ws files part : List (List ℕ)) (k : ℕ) (behind_head : files ≡ drop 7 ws) where
+  pub adds_part : part ≡ take k files → adds_in (numbers part) ≡ adds_in (take k (drop 7 (numbers ws)))
+  adds_part e = ap (λ l. adds_in (numbers l)) (e ∙ ap (take k) behind_head) ∙ ap adds_in (sym (take-map le k (drop 7 ws)) ∙ ap (take k) (sym (drop-map le 7 ws)))
 
-pub takes_part : (xs : List ℕ) (m j : ℕ) (o : Option (List ℕ)) → j ≡ 8 * (7 + 3 * m) → 8 * (7 + 3 * m) ≤ length xs → o ≡ takes_in (words_of (take (length xs - j) (drop j xs))) → o ≡ takes_in (drop (3 * m) (drop 7 (words_of xs)))
-takes_part xs m j o e h f = f ∙ ap takes_in (words_rest xs (7 + 3 * m) j e h ∙ sym (drop-drop (3 * m) 7 (words_of xs)))
+  pub takes_part : part ≡ drop k files → takes_in (numbers part) ≡ takes_in (drop k (drop 7 (numbers ws)))
+  takes_part e = ap (λ l. takes_in (numbers l)) (e ∙ ap (drop k) behind_head) ∙ ap takes_in (sym (drop-map le k (drop 7 ws)) ∙ ap (drop k) (sym (drop-map le 7 ws)))
 
 none_both : {A : Type 0} (b : Bool) → None ≡ cond {A = Option A} b None None
 none_both true = refl
@@ -114,39 +116,23 @@ pub entry_unsealed : (xs : List ℕ) → unsealed xs ≡ None → None ≡ entry
 unfolding entry_in
 entry_unsealed xs u = ap (λ o. some_else o None entry_from) (sym u)
 
-module _ (xs : List ℕ) (n : ℕ) (u : unsealed xs ≡ Some (take n (words_of xs))) (whole : 8 * n + 8 ≡ length xs) where
-  abbrev front : List ℕ
-  front = take n (words_of xs)
-
-  entry_sealed : entry_from front ≡ entry_in xs
+module _ (xs ws : List ℕ) (u : unsealed xs ≡ Some ws) where
+  entry_sealed : entry_from ws ≡ entry_in xs
   unfolding entry_in
   entry_sealed = ap (λ o. some_else o None entry_from) (sym u)
 
-  at : (k : ℕ) → k < n → get_or front k 0 ≡ get_or (words_of xs) k 0
-  at k h = get_or-take n (words_of xs) k 0 h
+  pub entry_no_change : None ≡ change_from (drop 3 ws) → None ≡ entry_in xs
+  entry_no_change e = none_both (ltb (get_or ws 1 0) 16) ∙ ap (λ o. cond (ltb (get_or ws 1 0) 16) (option_map (λ c. record { place = get_or ws 0 0; writer = get_or ws 1 0; serial = get_or ws 2 0; change = c }) o) None) e ∙ entry_sealed
 
-  pub change_part : (k : ℕ) (o : Option TableChange) → 3 ≤ n → k ≡ 8 * n - 24 → o ≡ change_from (words_of (take k (drop 24 xs))) → o ≡ change_from (drop 3 front)
-  change_part k o h e f =
-      let m : 3 + (n - 3) ≡ n = omega arith in
-      f ∙ ap change_from (words_part xs 3 (n - 3) 24 k refl (omega arith) (omega arith) ∙ sym (drop-take 3 (n - 3) (words_of xs)) ∙ ap (λ j. drop 3 (take j (words_of xs))) m)
+  pub entry_too_short : length ws < 3 → None ≡ entry_in xs
+  entry_too_short h = entry_no_change (change_too_short [] (omega arith) ∙ ap change_from (sym (drop_all 3 ws (omega arith))))
 
-  pub entry_no_change : None ≡ change_from (drop 3 front) → None ≡ entry_in xs
-  entry_no_change e = none_both (ltb (get_or front 1 0) 16) ∙ ap (λ o. cond (ltb (get_or front 1 0) 16) (option_map (λ c. record { place = get_or front 0 0; writer = get_or front 1 0; serial = get_or front 2 0; change = c }) o) None) e ∙ entry_sealed
+  pub entry_no_writer : 16 ≤ get_or ws 1 0 → None ≡ entry_in xs
+  entry_no_writer w = sym (cond-false (ltb (get_or ws 1 0) 16) _ _ (le-ltb (get_or ws 1 0) 16 w)) ∙ entry_sealed
 
-  pub entry_too_short : n < 3 → None ≡ entry_in xs
-  entry_too_short h =
-      let l = length-take n (words_of xs) in
-      entry_no_change (change_too_short [] (omega arith) ∙ ap change_from (sym (drop_all 3 front (omega arith))))
-
-  pub entry_no_writer : 3 ≤ n → 16 ≤ get_or (words_of xs) 1 0 → None ≡ entry_in xs
-  entry_no_writer h w = sym (cond-false (ltb (get_or front 1 0) 16) _ _ (le-ltb (get_or front 1 0) 16 (omega (arith, at 1 (omega arith))))) ∙ entry_sealed
-
-  pub entry_found : (e : LogEntry) → 3 ≤ n → e.place ≡ get_or (words_of xs) 0 0 → e.writer ≡ get_or (words_of xs) 1 0 → e.serial ≡ get_or (words_of xs) 2 0 → e.writer < 16 → Some e.change ≡ change_from (drop 3 front) → Some e ≡ entry_in xs
-  entry_found e h ep ew es w ec =
-      let p : e.place ≡ get_or front 0 0 = ep ∙ sym (at 0 (omega arith)) in
-      let q : e.writer ≡ get_or front 1 0 = ew ∙ sym (at 1 (omega arith)) in
-      let s : e.serial ≡ get_or front 2 0 = es ∙ sym (at 2 (omega arith)) in
+  pub entry_found : (e : LogEntry) → e.place ≡ get_or ws 0 0 → e.writer ≡ get_or ws 1 0 → e.serial ≡ get_or ws 2 0 → e.writer < 16 → Some e.change ≡ change_from (drop 3 ws) → Some e ≡ entry_in xs
+  entry_found e p q s w ec =
       ap Some (λ i. record { place = p i; writer = q i; serial = s i; change = e.change })
-      ∙ ap (option_map (λ c. record { place = get_or front 0 0; writer = get_or front 1 0; serial = get_or front 2 0; change = c })) ec
-      ∙ sym (cond-true (ltb (get_or front 1 0) 16) _ _ (lt-ltb (get_or front 1 0) 16 (omega arith)))
+      ∙ ap (option_map (λ c. record { place = get_or ws 0 0; writer = get_or ws 1 0; serial = get_or ws 2 0; change = c })) ec
+      ∙ sym (cond-true (ltb (get_or ws 1 0) 16) _ _ (lt-ltb (get_or ws 1 0) 16 (omega arith)))
       ∙ entry_sealed

@@ -1,8 +1,8 @@
 -- Files come back, are one, and have their rows where they lie.
-use Rattle.std.proofs.Common.{◌≡◌, ℕ, zero, suc, ◌+◌, ◌*◌, ◌^◌, ◌<◌, ◌≤◌, true, cond, ltb, ◌⊎◌, List, [], ◌∷◌, ◌++◌, length, get_or, take, drop, Some, None, sym, refl, ap, ◌∙◌, inl, inr, arith}
+use Rattle.std.proofs.Common.{◌≡◌, ℕ, zero, suc, ◌+◌, ◌*◌, ◌/◌, ◌^◌, ◌<◌, ◌≤◌, true, cond, ltb, ◌⊎◌, List, [], ◌∷◌, ◌++◌, length, get_or, take, drop, Some, None, sym, refl, ap, ◌∙◌, inl, inr, arith}
 use Rattle.std.specs.List.{slice_get}
 use Rattle.std.proofs.ByRecursion.{All-get_or}
-use Rattle.std.proofs.lemmas.List.{length-drop}
+use Rattle.std.proofs.lemmas.List.{drop-take, length-drop}
 use Rattle.std.proofs.lemmas.Option.{slice_get-get_or, slice_get_past}
 use Rattle.std.proofs.lemmas.Bool.{and_parts, and_from, ltb-true, lt-ltb, le-leb, leb-true, cases_lt}
 use Rattle.std.proofs.lemmas.Bool.Decides.{nat_tests}
@@ -14,11 +14,12 @@ use Rattle.codec.specs.declared.file.Head.{Head}
 use Rattle.codec.specs.Bounds.{is_key, is_word}
 use Rattle.codec.specs.Bounds.{every}
 use Rattle.codec.specs.FileLaws.{FilesComeBack, FilesAreOne, RowsAreThere}
-use Rattle.codec.specs.Files.{File, file, row_fits, count_fits, file_fits, row_words, pairs, file_words, file_bytes, head_in, with_rows, file_from, file_in, row_in}
+use Rattle.codec.specs.Files.{File, file, row_fits, count_fits, file_fits, row_words, pairs, file_words, file_bytes, head_in, with_rows, file_from, file_in, row_in, row_fitting, fitting, rows_from}
 use Rattle.codec.specs.Seals.{sealed_bytes, unsealed}
 use Rattle.codec.specs.Words.{AreWords, words_of}
 use Rattle.codec.proofs.BoundLaws.{every_at, some_of_else}
-use Rattle.codec.proofs.FileReads.{rows_at, length_pairs, row_in_at, row_missing, file_unsealed}
+use Rattle.codec.proofs.FileReads.{length_pairs, row_past, row_in_pairs, file_unsealed}
+use Rattle.codec.proofs.WordLaws.{length_words}
 use Rattle.codec.proofs.SealLaws.{cond_some, length_sealed_bytes, unsealed_sealed, sealed_unsealed, sealing}
 
 -- rows as numbers, and back
@@ -168,28 +169,53 @@ files_are_one xs f a e =
     let r = file_read s.0 f s.2 in
     (q.0 ∙ ap sealed_bytes (file_is_words s.0 f r), fits_from f (read_fits s.0 f q.1 r))
 
--- a file's rows are those at its count
-pub rows_of_file : (xs : List ℕ) (f : File) → file_in xs ≡ Some f
-    → (8 * (3 + 2 * length f.rows) + 8 ≡ length xs) × (f.rows ≡ rows_at xs (length f.rows)) × (every row_fits f.rows ≡ true)
+-- the pairs of numbers behind the head, of which the sum is none
+pairs_but_last : (n : ℕ) (vs : List ℕ) → length vs ≡ 2 * n + 1 → pairs (take (2 * n) vs) ≡ pairs vs
+pairs_but_last zero [] h = absurd (omega arith)
+pairs_but_last zero (a ∷ []) h = refl
+pairs_but_last zero (a ∷ b ∷ vs) h = absurd (omega arith)
+pairs_but_last (suc n) [] h = absurd (omega arith)
+pairs_but_last (suc n) (a ∷ []) h = absurd (omega arith)
+pairs_but_last (suc n) (a ∷ b ∷ vs) h =
+    let two : 2 * suc n ≡ suc (suc (2 * n)) = omega arith in
+    ap (λ k. pairs (take k (a ∷ b ∷ vs))) two ∙ ap (λ l. row a b ∷ l) (pairs_but_last n vs (omega arith))
+
+-- how long a file is, and its rows
+pub rows_of_file : (xs : List ℕ) (f : File) → file_in xs ≡ Some f → (8 * (3 + 2 * length f.rows) + 8 ≡ length xs) × (f.rows ≡ pairs (drop 3 (words_of xs))) × (every row_fits f.rows ≡ true)
 rows_of_file xs f e =
     let s = sealed_file xs f e in
     let ws = s.0 in
+    let W = words_of xs in
+    let k = length f.rows in
     let q = sealing xs s.0 s.1 in
     let r = file_read s.0 f s.2 in
     let l : length f.rows ≡ r.count = ap length r.rows ∙ length_pairs r.count (drop 3 s.0) (length-drop 3 s.0 ∙ omega (arith, r.long)) in
     let n : length s.0 ≡ 3 + 2 * length f.rows = omega (arith, r.long, l) in
-    (omega (arith, n, q.whole), r.rows ∙ ap (λ vs. pairs (drop 3 vs)) q.front ∙ ap (λ k. pairs (drop 3 (take k (words_of xs)))) n, ap (every row_fits) r.rows ∙ r.all)
+    let long : length (drop 3 W) ≡ 2 * k + 1 = length-drop 3 W ∙ omega (arith, n, q.whole, length_words (length xs / 8) xs) in (
+      omega (arith, n, q.whole),
+      r.rows ∙ ap (λ vs. pairs (drop 3 vs)) q.front ∙ ap (λ m. pairs (drop 3 (take m W))) n ∙ ap pairs (drop-take 3 (2 * k) W) ∙ pairs_but_last k (drop 3 W) long,
+      ap (every row_fits) r.rows ∙ r.all,
+    )
 
 pub rows_are_there : RowsAreThere
 rows_are_there xs f e i = go (rows_of_file xs f e) (cases_lt i (length f.rows))
   where
-    go : (8 * (3 + 2 * length f.rows) + 8 ≡ length xs) × (f.rows ≡ rows_at xs (length f.rows)) × (every row_fits f.rows ≡ true)
+    go : (8 * (3 + 2 * length f.rows) + 8 ≡ length xs) × (f.rows ≡ pairs (drop 3 (words_of xs))) × (every row_fits f.rows ≡ true)
         → (i < length f.rows) ⊎ (length f.rows ≤ i) → row_in (words_of xs) i ≡ slice_get f.rows i
     go p (inl h) =
         let d = row 0 0 in
-        let same : get_or (rows_at xs (length f.rows)) i (row 0 0) ≡ get_or f.rows i (row 0 0) = ap (λ rs. get_or rs i (row 0 0)) (sym p.1) in
-        row_in_at xs (length f.rows) p.0 i d h
-        ∙ ap (λ r. cond (row_fits r) (Some r) None) same
+        sym (row_in_pairs (words_of xs) i d (omega (arith, h, ap length p.1)))
+        ∙ ap (λ rs. row_fitting (get_or rs i d)) (sym p.1)
         ∙ ap (λ b. cond b (Some (get_or f.rows i d)) None) (every_at row_fits f.rows i d p.2 h)
         ∙ sym (slice_get-get_or f.rows i d h)
-    go p (inr h) = sym (row_missing xs i (omega (arith, p.0))) ∙ sym (slice_get_past f.rows i h)
+    go p (inr h) = sym (row_past (words_of xs) i (omega (arith, h, ap length p.1))) ∙ sym (slice_get_past f.rows i h)
+
+-- the rows that a file's bytes give one by one are its rows
+fitting_all : (rs : List Row) → every row_fits rs ≡ true → fitting rs ≡ rs
+fitting_all [] e = refl
+fitting_all (r ∷ rs) e =
+    let p = and_parts (row_fits r) (every row_fits rs) e in
+    rw (p.0, fitting_all rs p.1)
+
+pub rows_from_file : (xs : List ℕ) (f : File) → file_in xs ≡ Some f → rows_from xs ≡ f.rows
+rows_from_file xs f e = let p = rows_of_file xs f e in ap fitting (sym p.1) ∙ fitting_all f.rows p.2

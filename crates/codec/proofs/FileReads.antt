@@ -1,7 +1,9 @@
 -- Files as they are read: the head, and the rows one by one.
-use Rattle.std.proofs.Common.{◌≡◌, ℕ, zero, suc, ◌+◌, ◌*◌, ◌/◌, ◌<◌, ◌≤◌, Bool, true, false, cond, List, [], ◌∷◌, length, get_or, take, drop, Some, None, sym, refl, ap, ◌∙◌, arith}
+use Rattle.std.proofs.Common.{◌≡◌, ℕ, zero, suc, ◌+◌, ◌-◌, ◌*◌, ◌/◌, ◌<◌, ◌≤◌, min, Bool, true, false, cond, List, [], ◌∷◌, length, get_or, drop, map, is_some, Some, None, sym, refl, ap, ◌∙◌, arith}
+use Rattle.std.specs.List.{list_all}
+use Rattle.std.specs.Simd.{first_chunks}
 use Rattle.std.specs.Option.{option_map}
-use Rattle.std.proofs.lemmas.List.{length-drop, length-take-le, get_or-drop, get_or-take}
+use Rattle.std.proofs.lemmas.List.{length-drop, get_or-drop}
 use Rattle.std.proofs.lemmas.Bool.{le-leb, lt-leb}
 use Rattle.std.proofs.lemmas.Bool.Decides.{nat_tests}
 use Rattle.rows.specs.declared.row.Row.{Row}
@@ -9,11 +11,10 @@ use Rattle.rows.specs.Checks.{some_else}
 use Rattle.rows.specs.Numbers.{row}
 use Rattle.codec.specs.declared.file.Head.{Head}
 use Rattle.codec.specs.Bounds.{every}
-use Rattle.codec.specs.Files.{row_fits, pairs, head_from, head_in, head_of, file, row_of, row_in, with_rows, file_from, file_in}
+use Rattle.codec.specs.Files.{row_fits, row_read, row_fitting, fitting, pairs, head_in, head_of, file, row_in, with_rows, file_from, file_in}
 use Rattle.codec.specs.Seals.{unsealed}
-use Rattle.codec.specs.Words.{words_of}
-use Rattle.codec.proofs.BoundLaws.{every_more, every_stop, every_end}
-use Rattle.codec.proofs.WordLaws.{length_words}
+use Rattle.codec.specs.Words.{le, numbers}
+use Rattle.codec.proofs.BoundLaws.{is_some_cond}
 
 -- rows of numbers
 pub length_pairs : (n : ℕ) (vs : List ℕ) → length vs ≡ 2 * n → length (pairs vs) ≡ n
@@ -32,77 +33,57 @@ getD_pairs (a ∷ b ∷ vs) (suc i) d h =
     let f : suc (suc (1 + 2 * i)) ≡ 1 + 2 * suc i = omega arith in
     getD_pairs vs i d (omega arith) ∙ ap (λ k. row (get_or (a ∷ b ∷ vs) k 0) (get_or vs (1 + 2 * i) 0)) e ∙ ap (λ k. row (get_or (a ∷ b ∷ vs) (2 * suc i) 0) (get_or (a ∷ b ∷ vs) k 0)) f
 
--- the head of sealed numbers
-module _ (xs : List ℕ) (n : ℕ) (whole : 8 * n + 8 ≡ length xs) where
-  long : length (take n (words_of xs)) ≡ n
-  long = length-take-le n (words_of xs) (omega (arith, length_words (length xs / 8) xs))
+pub length_pairs_half : (vs : List ℕ) → length (pairs vs) ≡ length vs / 2
+length_pairs_half [] = refl
+length_pairs_half (a ∷ []) = refl
+length_pairs_half (a ∷ b ∷ vs) = let h = length_pairs_half vs in omega arith
 
-  pub head_short : n < 3 → None ≡ head_in (take n (words_of xs))
-  head_short h = rw (lt-leb 3 (length (take n (words_of xs))) (omega (arith, long)))
+-- rows that are lent as the bytes of their numbers
+pub pairs_read : (n : ℕ) (ws : List (List ℕ)) → n ≡ length ws / 2 → map row_read (first_chunks 2 n ws) ≡ pairs (numbers ws)
+pairs_read zero [] h = refl
+pairs_read zero (v ∷ []) h = refl
+pairs_read zero (v ∷ w ∷ ws) h = absurd (omega arith)
+pairs_read (suc n) [] h = absurd (omega arith)
+pairs_read (suc n) (v ∷ []) h = absurd (omega arith)
+pairs_read (suc n) (v ∷ w ∷ ws) h = ap (λ l. row (le v) (le w) ∷ l) (pairs_read n ws (omega arith))
 
-  pub head_reads : (a b c : ℕ) → 3 ≤ n → a ≡ get_or (words_of xs) 0 0 → b ≡ get_or (words_of xs) 1 0 → c ≡ get_or (words_of xs) 2 0 → head_from n a b c ≡ head_in (take n (words_of xs))
-  head_reads a b c h ea eb ec =
-      let at0 = ea ∙ sym (get_or-take n (words_of xs) 0 0 (omega arith)) in
-      let at1 = eb ∙ sym (get_or-take n (words_of xs) 1 0 (omega arith)) in
-      let at2 = ec ∙ sym (get_or-take n (words_of xs) 2 0 (omega arith)) in
-      let l = long in
-      let t = le-leb 3 (length (take n (words_of xs))) (omega (arith, long)) in
+pub behind_head : {A : Type 0} (ws : List A) → drop (min (length ws) 3) ws ≡ drop 3 ws
+behind_head [] = refl
+behind_head (a ∷ []) = refl
+behind_head (a ∷ b ∷ []) = refl
+behind_head (a ∷ b ∷ c ∷ ws) = let three : min (length (a ∷ b ∷ c ∷ ws)) 3 ≡ 3 = omega arith in ap (λ k. drop k (a ∷ b ∷ c ∷ ws)) three
+
+pub all_fit : (ps : List (List (List ℕ))) → list_all (λ p. is_some (row_fitting (row_read p))) ps ≡ every row_fits (map row_read ps)
+all_fit [] = refl
+all_fit (p ∷ ps) =
+    let ih = all_fit ps in
+    let here = is_some_cond (row_fits (row_read p)) (row_read p) in
+    rw (here, ih)
+
+fitting_fewer : (b : Bool) (r : Row) (rs : List Row) (n : ℕ) → length rs ≤ n → length (cond b (r ∷ rs) []) ≤ suc n
+fitting_fewer true r rs n h = omega arith
+fitting_fewer false r rs n h = omega arith
+
+pub fitting_few : (rs : List Row) → length (fitting rs) ≤ length rs
+fitting_few [] = omega arith
+fitting_few (r ∷ rs) = fitting_fewer (row_fits r) r (fitting rs) (length rs) (fitting_few rs)
+
+module _ (ws : List ℕ) (i : ℕ) where
+  many : length (pairs (drop 3 ws)) ≡ (length ws - 3) / 2
+  many = length_pairs_half (drop 3 ws) ∙ ap (λ n. n / 2) (length-drop 3 ws)
+
+  pub row_past : length (pairs (drop 3 ws)) ≤ i → None ≡ row_in ws i
+  row_past h = rw (lt-leb (5 + 2 * i) (length ws) (omega (arith, many)))
+
+  pub row_in_pairs : (d : Row) → i < length (pairs (drop 3 ws)) → row_fitting (get_or (pairs (drop 3 ws)) i d) ≡ row_in ws i
+  row_in_pairs d h =
+      let l : 5 + 2 * i ≤ length ws = omega (arith, many) in
+      let t = le-leb (5 + 2 * i) (length ws) l in
+      let e : get_or (pairs (drop 3 ws)) i d ≡ row (get_or ws (3 + 2 * i) 0) (get_or ws (4 + 2 * i) 0) =
+      getD_pairs (drop 3 ws) i d (omega (arith, length-drop 3 ws))
+      ∙ ap (λ k. row k (get_or (drop 3 ws) (1 + 2 * i) 0)) (get_or-drop 3 ws (2 * i) 0)
+      ∙ ap (λ a. row (get_or ws (3 + 2 * i) 0) a) (get_or-drop 3 ws (1 + 2 * i) 0 ∙ ap (λ k. get_or ws k 0) (omega arith)) in
       cc
-
--- the rows of a file, one by one
-abbrev pub rows_at : List ℕ → ℕ → List Row
-rows_at xs c = pairs (drop 3 (take (3 + 2 * c) (words_of xs)))
-
-module _ (xs : List ℕ) (c : ℕ) (whole : 8 * (3 + 2 * c) + 8 ≡ length xs) where
-  long_words : length (words_of xs) ≡ 4 + 2 * c
-  long_words = length_words (length xs / 8) xs ∙ omega arith
-
-  long_front : length (drop 3 (take (3 + 2 * c) (words_of xs))) ≡ 2 * c
-  long_front = length-drop 3 (take (3 + 2 * c) (words_of xs)) ∙ omega (arith, length-take-le (3 + 2 * c) (words_of xs) (omega (arith, long_words)))
-
-  pub length_rows_at : length (rows_at xs c) ≡ c
-  length_rows_at = length_pairs c (drop 3 (take (3 + 2 * c) (words_of xs))) long_front
-
-  pub getD_rows_at : (i : ℕ) (d : Row) → i < c → get_or (rows_at xs c) i d ≡ row (get_or (words_of xs) (3 + 2 * i) 0) (get_or (words_of xs) (4 + 2 * i) 0)
-  getD_rows_at i d h =
-      let vs = drop 3 (take (3 + 2 * c) (words_of xs)) in
-      let at : (k : ℕ) → k < 2 * c → get_or (drop 3 (take (3 + 2 * c) (words_of xs))) k 0 ≡ get_or (words_of xs) (3 + k) 0 =
-      λ k l. get_or-drop 3 (take (3 + 2 * c) (words_of xs)) k 0 ∙ get_or-take (3 + 2 * c) (words_of xs) (3 + k) 0 (omega arith) in
-      getD_pairs vs i d (omega (arith, long_front))
-      ∙ ap (λ k. row k (get_or (drop 3 (take (3 + 2 * c) (words_of xs))) (1 + 2 * i) 0)) (at (2 * i) (omega arith))
-      ∙ ap (λ a. row (get_or (words_of xs) (3 + 2 * i) 0) a) (at (1 + 2 * i) (omega arith) ∙ ap (λ k. get_or (words_of xs) k 0) (omega arith))
-
-  pub row_in_at : (i : ℕ) (d : Row) → i < c → row_in (words_of xs) i ≡ cond (row_fits (get_or (rows_at xs c) i d)) (Some (get_or (rows_at xs c) i d)) None
-  row_in_at i d h = let e = getD_rows_at i d h in let t = le-leb (5 + 2 * i) (length (words_of xs)) (omega (arith, long_words)) in cc
-
-  row_passes : (r d : Row) (i : ℕ) → i < c → Some r ≡ row_in (words_of xs) i → row_fits (get_or (rows_at xs c) i d) ≡ true
-  row_passes r d i h e = by (row_fits (get_or (rows_at xs c) i d)) (e ∙ row_in_at i d h)
-    where
-      by : (b : Bool) → Some r ≡ cond b (Some (get_or (rows_at xs c) i d)) None → b ≡ true
-      by true p = refl
-      by false p = absurd (let z : ◌≡◌ {A = ℕ} 0 1 = cc in omega arith)
-
-  row_fails : (d : Row) (i : ℕ) → i < c → None ≡ row_in (words_of xs) i → row_fits (get_or (rows_at xs c) i d) ≡ false
-  row_fails d i h e = by (row_fits (get_or (rows_at xs c) i d)) (e ∙ row_in_at i d h)
-    where
-      by : (b : Bool) → None ≡ cond b (Some (get_or (rows_at xs c) i d)) None → b ≡ false
-      by true p = absurd (let z : ◌≡◌ {A = ℕ} 0 1 = cc in omega arith)
-      by false p = refl
-
-  pub rows_more : (r : Row) (i : ℕ) → i < c → Some r ≡ row_in (words_of xs) i → every row_fits (drop (i + 1) (rows_at xs c)) ≡ every row_fits (drop i (rows_at xs c))
-  rows_more r i h e = sym (every_more row_fits (rows_at xs c) i r (omega (arith, length_rows_at)) (row_passes r r i h e))
-
-  pub rows_stop : (i : ℕ) → i < c → None ≡ row_in (words_of xs) i → every row_fits (drop i (rows_at xs c)) ≡ false
-  rows_stop i h e = every_stop row_fits (rows_at xs c) i (row 0 0) (omega (arith, length_rows_at)) (row_fails (row 0 0) i h e)
-
-  pub rows_end : (i : ℕ) → c ≤ i → every row_fits (drop i (rows_at xs c)) ≡ true
-  rows_end i h = every_end row_fits (rows_at xs c) i (omega (arith, length_rows_at))
-
-pub row_missing : (xs : List ℕ) (i : ℕ) → length xs / 8 < 5 + 2 * i → None ≡ row_in (words_of xs) i
-row_missing xs i h = rw (lt-leb (5 + 2 * i) (length (words_of xs)) (omega (arith, length_words (length xs / 8) xs)))
-
-pub row_reads : (xs : List ℕ) (i k a : ℕ) → 5 + 2 * i ≤ length xs / 8 → k ≡ get_or (words_of xs) (3 + 2 * i) 0 → a ≡ get_or (words_of xs) (4 + 2 * i) 0 → row_of k a ≡ row_in (words_of xs) i
-row_reads xs i k a h ek ea = let t = le-leb (5 + 2 * i) (length (words_of xs)) (omega (arith, length_words (length xs / 8) xs)) in cc
 
 -- the whole of a file
 pub file_unsealed : (xs ws : List ℕ) → unsealed xs ≡ Some ws → file_in xs ≡ file_from ws
@@ -117,24 +98,19 @@ file_not_sealed xs e = ap (λ o. option_map head_of (some_else o None file_from)
 pub head_count : (ws : List ℕ) (h : Head) → Some h ≡ head_in ws → length ws ≡ 3 + 2 * h.count
 head_count ws h e = grind (arith, nat_tests)
 
-module _ (xs : List ℕ) (n : ℕ) (whole : 8 * n + 8 ≡ length xs) (u : unsealed xs ≡ Some (take n (words_of xs))) where
-  pub file_headless : None ≡ head_in (take n (words_of xs)) → None ≡ option_map head_of (file_in xs)
-  file_headless e = ap (λ o. option_map head_of (some_else o None (λ h. with_rows h (pairs (drop 3 (take n (words_of xs))))))) e ∙ ap (option_map head_of) (sym (file_unsealed xs (take n (words_of xs)) u))
+module _ (xs ws : List ℕ) (u : unsealed xs ≡ Some ws) where
+  pub file_headless : None ≡ head_in ws → None ≡ option_map head_of (file_in xs)
+  file_headless e = ap (λ o. option_map head_of (some_else o None (λ h. with_rows h (pairs (drop 3 ws))))) e ∙ ap (option_map head_of) (sym (file_unsealed xs ws u))
 
-  pub many_rows : (h : Head) → Some h ≡ head_in (take n (words_of xs)) → n ≡ 3 + 2 * h.count
-  many_rows h e = sym (long xs n whole) ∙ head_count (take n (words_of xs)) h e
-
-  module _ (h : Head) (e : Some h ≡ head_in (take n (words_of xs))) where
-    file_is : file_in xs ≡ with_rows h (rows_at xs h.count)
-    file_is =
-        file_unsealed xs (take n (words_of xs)) u ∙ ap (λ o. some_else o None (λ g. with_rows g (pairs (drop 3 (take n (words_of xs)))))) (sym e)
-        ∙ ap (λ k. with_rows h (pairs (drop 3 (take k (words_of xs))))) (many_rows h e)
-
-    pub file_bad : false ≡ every row_fits (rows_at xs h.count) → None ≡ option_map head_of (file_in xs)
-    file_bad b = ap (λ t. option_map head_of (cond t (Some (file h.number h.began (rows_at xs h.count))) None)) b ∙ ap (option_map head_of) (sym file_is)
-
-    pub file_good : true ≡ every row_fits (rows_at xs h.count) → Some h ≡ option_map head_of (file_in xs)
-    file_good b =
-        let m : length (rows_at xs h.count) ≡ h.count = length_rows_at xs h.count (omega (arith, many_rows h e)) in
-        ap (λ k. Some (record { number = h.number; began = h.began; count = k })) (sym m)
-        ∙ ap (λ t. option_map head_of (cond t (Some (file h.number h.began (rows_at xs h.count))) None)) b ∙ ap (option_map head_of) (sym file_is)
+  pub file_told : (h : Head) → Some h ≡ head_in ws → cond (every row_fits (pairs (drop 3 ws))) (Some h) None ≡ option_map head_of (file_in xs)
+  file_told h e =
+      let rs = pairs (drop 3 ws) in
+      let n : length (pairs (drop 3 ws)) ≡ h.count = length_pairs_half (drop 3 ws) ∙ omega (arith, length-drop 3 ws, head_count ws h e) in
+      ap (λ k. cond (every row_fits (pairs (drop 3 ws))) (Some (record { number = h.number; began = h.began; count = k })) None) (sym n)
+      ∙ told (every row_fits rs)
+      ∙ ap (λ o. option_map head_of (some_else o None (λ g. with_rows g (pairs (drop 3 ws))))) e
+      ∙ ap (option_map head_of) (sym (file_unsealed xs ws u))
+    where
+      told : (b : Bool) → cond b (Some (record { number = h.number; began = h.began; count = length (pairs (drop 3 ws)) })) None ≡ option_map head_of (cond b (Some (file h.number h.began (pairs (drop 3 ws)))) None)
+      told true = refl
+      told false = refl

@@ -16,17 +16,12 @@ use Rattle.codec.specs.Words.{AreWords, put_at, words_of, bytes_of}
 use Rattle.codec.specs.Writes.{told_of, writes, lent_written, lent_keys}
 use Rattle.codec.proofs.BoundLaws.{every_more, every_stop, every_end}
 use Rattle.codec.proofs.FileLaws.{length_file_bytes, length_file_words, row_words_pairs, Fits, fits_from}
-use Rattle.codec.proofs.FileReads.{getD_pairs}
+use Rattle.codec.proofs.FileReads.{getD_pairs, length_pairs_half}
 use Rattle.codec.proofs.KeyLaws.{keys_more}
 use Rattle.codec.proofs.SealLaws.{seal_done}
 use Rattle.codec.proofs.WordLaws.{put_on, put_front}
 
 -- rows of lent numbers, one by one
-pub length_lent : (vs : List ℕ) → length (pairs vs) ≡ length vs / 2
-length_lent [] = refl
-length_lent (a ∷ []) = refl
-length_lent (a ∷ b ∷ vs) = let h = length_lent vs in omega arith
-
 row_of_some : (r : Row) (k a : ℕ) → Some r ≡ row_of k a → (row_fits (row k a) ≡ true) × (row k a ≡ r)
 row_of_some r k a e = by (row_fits (row k a)) e
   where
@@ -42,29 +37,32 @@ row_of_none k a e = by (row_fits (row k a)) e
     by false p = refl
 
 module _ (lent : List ℕ) (i : ℕ) (h : i < length lent / 2) where
-  lent_at : (d : Row) → get_or (pairs lent) i d ≡ row (get_or lent (2 * i) 0) (get_or lent (1 + 2 * i) 0)
-  lent_at d = getD_pairs lent i d (omega arith)
+  lent_at : (d : Row) → get_or (pairs lent) i d ≡ row (get_or lent (2 * i + 0) 0) (get_or lent (2 * i + 1) 0)
+  lent_at d =
+      let key : 2 * i ≡ 2 * i + 0 = omega arith in
+      let amount : 1 + 2 * i ≡ 2 * i + 1 = omega arith in
+      getD_pairs lent i d (omega arith) ∙ ap (λ k. row (get_or lent k 0) (get_or lent (1 + 2 * i) 0)) key ∙ ap (λ k. row (get_or lent (2 * i + 0) 0) (get_or lent k 0)) amount
 
-  pub lent_more : (r : Row) (keys new : Span) → Some r ≡ row_of (get_or lent (2 * i) 0) (get_or lent (1 + 2 * i) 0) → new ≡ widened r.key keys
+  pub lent_more : (r : Row) (keys new : Span) → Some r ≡ row_of (get_or lent (2 * i + 0) 0) (get_or lent (2 * i + 1) 0) → new ≡ widened r.key keys
       → (every row_fits (drop i (pairs lent)) ≡ every row_fits (pairs lent)) × (keys ≡ keys_of (take i (pairs lent)))
       → (every row_fits (drop (i + 1) (pairs lent)) ≡ every row_fits (pairs lent)) × (new ≡ keys_of (take (i + 1) (pairs lent)))
   lent_more r keys new e w inv =
-      let p = row_of_some r (get_or lent (2 * i) 0) (get_or lent (1 + 2 * i) 0) e in
-      let l : i < length (pairs lent) = omega (arith, length_lent lent) in
+      let p = row_of_some r (get_or lent (2 * i + 0) 0) (get_or lent (2 * i + 1) 0) e in
+      let l : i < length (pairs lent) = omega (arith, length_pairs_half lent) in
       let same : get_or (pairs lent) i r ≡ r = lent_at r ∙ p.1 in (
         sym (every_more row_fits (pairs lent) i r l (ap row_fits (lent_at r) ∙ p.0)) ∙ inv.0,
         w ∙ ap (widened r.key) inv.1 ∙ ap (λ (x : Row). widened x.key (keys_of (take i (pairs lent)))) (sym same) ∙ sym (keys_more (pairs lent) i r l),
       )
 
-  pub lent_stop : None ≡ row_of (get_or lent (2 * i) 0) (get_or lent (1 + 2 * i) 0) → every row_fits (drop i (pairs lent)) ≡ every row_fits (pairs lent) → None ≡ lent_keys lent
+  pub lent_stop : None ≡ row_of (get_or lent (2 * i + 0) 0) (get_or lent (2 * i + 1) 0) → every row_fits (drop i (pairs lent)) ≡ every row_fits (pairs lent) → None ≡ lent_keys lent
   lent_stop e inv =
-      let l : i < length (pairs lent) = omega (arith, length_lent lent) in
-      let bad = every_stop row_fits (pairs lent) i (row 0 0) l (ap row_fits (lent_at (row 0 0)) ∙ row_of_none (get_or lent (2 * i) 0) (get_or lent (1 + 2 * i) 0) e) in
+      let l : i < length (pairs lent) = omega (arith, length_pairs_half lent) in
+      let bad = every_stop row_fits (pairs lent) i (row 0 0) l (ap row_fits (lent_at (row 0 0)) ∙ row_of_none (get_or lent (2 * i + 0) 0) (get_or lent (2 * i + 1) 0) e) in
       ap (λ b. cond b (Some (keys_of (pairs lent))) None) (sym bad ∙ inv)
 
 pub lent_end : (lent : List ℕ) (i : ℕ) (keys : Span) → length lent / 2 ≤ i → every row_fits (drop i (pairs lent)) ≡ every row_fits (pairs lent) → keys ≡ keys_of (take i (pairs lent)) → Some keys ≡ lent_keys lent
 lent_end lent i keys h inv e =
-    let l : length (pairs lent) ≤ i = omega (arith, length_lent lent) in
+    let l : length (pairs lent) ≤ i = omega (arith, length_pairs_half lent) in
     ap Some (e ∙ ap keys_of (take_all i (pairs lent) l)) ∙ ap (λ b. cond b (Some (keys_of (pairs lent))) None) (sym (every_end row_fits (pairs lent) i l) ∙ inv)
 
 -- why a file is not written
@@ -142,7 +140,7 @@ pub lent_is_written : (n b : ℕ) (lent out one two three : List ℕ) (keys : Sp
     → ◌≡◌ {A = Option Written × List ℕ} (Some (record { length = 8 * (4 + 2 * (length lent / 2)); keys = keys }), three) (lent_written n b lent out)
 lent_is_written n b lent out one two three keys hn even some few k room a1 a2 e1 e2 e3 =
     let f = file n b (pairs lent) in
-    let c : length (pairs lent) ≡ length lent / 2 = length_lent lent in
+    let c : length (pairs lent) ≡ length lent / 2 = length_pairs_half lent in
     let q = lent_keys_some lent keys k in
     let words : file_words (file n b (pairs lent)) ≡ n ∷ b ∷ (length lent / 2) ∷ lent =
     ap (λ j. n ∷ b ∷ j ∷ row_words (pairs lent)) c ∙ ap (λ vs. n ∷ b ∷ (length lent / 2) ∷ vs) (row_words_pairs (length lent / 2) lent (omega arith)) in

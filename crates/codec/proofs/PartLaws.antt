@@ -2,6 +2,8 @@
 use Rattle.std.proofs.Common.{◌≡◌, ℕ, zero, suc, ◌+◌, ◌-◌, ◌≤◌, ◌⊎◌, List, [], ◌∷◌, ◌++◌, length, take, drop, sym, refl, ap, ◌∙◌, inl, inr, zero-add, arith}
 use borrow.Rule.Slice.PartMut.{put_mid}
 use Rattle.std.proofs.lemmas.List.{append_assoc, drop_at, drop-drop, drop-take, drop-append-le, length-append, length-drop, length-take-le, take-append-drop, take_at, take-take}
+use Rattle.codec.specs.declared.rewrite.Part.{Part}
+use Rattle.codec.specs.Rewrites.{part_in}
 use Rattle.codec.specs.Words.{put_at}
 use Rattle.codec.proofs.WordLaws.{put_front, read_below}
 
@@ -70,3 +72,9 @@ part_put a k p ys xs zs h l e =
     ∙ sym (append_assoc (take a xs) (take p D) (ys ++ drop (p + length ys) D))
     ∙ ap (λ l. l ++ (ys ++ drop (p + length ys) D)) (sym start)
     ∙ ap (λ l. take (a + p) xs ++ (ys ++ l)) end
+
+-- the part at a range
+pub range_part : (a b : ℕ) (p : Part) (xs : List ℕ) → a ≡ p.start → b ≡ p.start + p.length → take (b - a) (drop a xs) ≡ part_in p xs
+range_part a b p xs e f =
+    let long : b - p.start ≡ p.length = omega (arith, f) in
+    ap (λ k. take (b - k) (drop k xs)) e ∙ ap (λ k. take k (drop p.start xs)) long

@@ -1,8 +1,8 @@
 -- Rows that are written anew, and the rows of a file as they are read for that.
-use Rattle.std.proofs.Common.{◌≡◌, ℕ, ◌+◌, ◌<◌, ◌≤◌, Bool, true, false, ◌||◌, List, [], ◌∷◌, ◌++◌, length, get_or, drop, is_some, Some, None, Option, sym, refl, ap, ◌∙◌, arith}
+use Rattle.std.proofs.Common.{◌≡◌, ℕ, ◌+◌, ◌<◌, ◌≤◌, Bool, true, false, ◌||◌, List, [], ◌∷◌, ◌++◌, length, get_or, is_some, Some, None, Option, sym, refl, ap, ◌∙◌, arith}
 use Rattle.std.specs.List.{slice_get}
 use Rattle.std.specs.Option.{option_map}
-use Rattle.std.proofs.lemmas.List.{append_assoc, at_drop_more, at_drop_all}
+use Rattle.std.proofs.lemmas.List.{append_assoc, length-append}
 use Rattle.std.proofs.lemmas.Option.{slice_get-get_or}
 use Rattle.std.proofs.lemmas.Bool.Decides.{nat_tests}
 use Rattle.rows.specs.declared.row.Row.{Row}
@@ -11,13 +11,12 @@ use Rattle.rows.specs.Checks.{some_else}
 use Rattle.rows.specs.Orders.{passes_limit}
 use Rattle.rows.specs.Rows.{outside, raised}
 use Rattle.codec.specs.declared.file.Head.{Head}
-use Rattle.codec.specs.declared.rewrite.Fate.TheVariants.{Stays, Goes, TooLarge}
 use Rattle.codec.specs.declared.rewrite.Rewrite.{Rewrite}
 use Rattle.codec.specs.declared.rewrite.Rewrite.TheVariants.{Whole, Outside, Raised}
-use Rattle.codec.specs.Files.{File, head_of, file_in, row_in}
+use Rattle.codec.specs.Files.{File, head_of, file_in, row_in, rows_from}
 use Rattle.codec.specs.Rewrites.{fate_of, staying, breaks, rewritten, refuses, rows_in, survey}
 use Rattle.codec.specs.Words.{words_of}
-use Rattle.codec.proofs.FileLaws.{rows_are_there}
+use Rattle.codec.proofs.FileLaws.{rows_are_there, rows_from_file}
 
 -- over lists put together
 pub rewritten_append : (w : Rewrite) (xs ys : List Row) → rewritten w (xs ++ ys) ≡ rewritten w xs ++ rewritten w ys
@@ -63,18 +62,18 @@ rewritten_raised s n (r ∷ rs) e =
     let ih : passes_limit s n rs ≡ false → rewritten (Raised s n) rs ≡ raised s n rs = rewritten_raised s n rs in
     grind (arith, nat_tests)
 
--- one row more, as a loop over rows meets it
-module _ (w : Rewrite) (rs : List Row) (i : ℕ) (r : Row) (h : i < length rs) (here : get_or rs i r ≡ r) where
-  rows_left : drop i rs ≡ r ∷ drop (i + 1) rs
-  rows_left = at_drop_more (λ l. l) rs i r h ∙ ap (λ x. x ∷ drop (i + 1) rs) here
+-- whether a row that is not refused stays
+pub staying_some : (o : Option Row) → is_some o ≡ true → length (staying (Some o)) ≡ 1
+staying_some (Some r) e = refl
+staying_some None e = absurd (let z : ◌≡◌ {A = ℕ} 0 1 = cc in omega arith)
 
-  pub rewritten_step : rewritten w (drop i rs) ≡ staying (fate_of w r) ++ rewritten w (drop (i + 1) rs)
-  unfolding rewritten
-  rewritten_step = ap (rewritten w) rows_left
+pub staying_none : (o : Option Row) → is_some o ≡ false → length (staying (Some o)) ≡ 0
+staying_none (Some r) e = absurd (let z : ◌≡◌ {A = ℕ} 0 1 = cc in omega arith)
+staying_none None e = refl
 
-  pub refuses_step : refuses w (drop i rs) ≡ (breaks (fate_of w r) || refuses w (drop (i + 1) rs))
-  unfolding refuses
-  refuses_step = ap (refuses w) rows_left
+staying_few : (o : Option Row) → length (staying (Some o)) ≤ 1
+staying_few (Some r) = omega arith
+staying_few None = omega arith
 
 pub survey_refused : (w : Rewrite) (there : Bool) (rs : List Row) → refuses w rs ≡ true → None ≡ survey w there rs
 survey_refused w true rs e = rw e
@@ -112,46 +111,35 @@ module _ (xs : List ℕ) (i : ℕ) (file : is_some (file_in xs) ≡ true) (h : i
       let z : ◌≡◌ {A = ℕ} 0 1 = cc in
       omega arith
 
--- counting the rows that stay
-abbrev pub Counted : Rewrite → List Row → ℕ → ℕ → Type 0
-Counted w rs i n = (refuses w (drop i rs) ≡ refuses w rs) × (n + length (rewritten w (drop i rs)) ≡ length (rewritten w rs)) × (n ≤ i)
+pub rows_from_there : (xs : List ℕ) → is_some (file_in xs) ≡ true → rows_from xs ≡ rows_in xs
+unfolding rows_in
+rows_from_there xs e = by (file_in xs) refl e
+  where
+    by : (o : Option File) → file_in xs ≡ o → is_some o ≡ true → rows_from xs ≡ some_else o [] (λ f. f.rows)
+    by None p q = absurd (let z : ◌≡◌ {A = ℕ} 0 1 = cc in omega arith)
+    by (Some f) p q = rows_from_file xs f p
 
-module _ (w : Rewrite) (xs : List ℕ) (h : Head) (e : Some h ≡ option_map head_of (file_in xs)) (i n : ℕ) (l : i < h.count) (inv : Counted w (rows_in xs) i n) where
-  within_rows : i < length (rows_in xs)
-  within_rows = omega (arith, (head_there xs h e).1)
+-- counting the rows that stay, while some are left
+abbrev pub Counted : Rewrite → List Row → List Row → ℕ → Type 0
+Counted w rs left n = (refuses w left ≡ refuses w rs) × (n + length (rewritten w left) ≡ length (rewritten w rs)) × (n + length left ≤ length rs)
 
-  pub count_no_row : None ≡ row_in (words_of xs) i → ⊥
-  count_no_row p = row_not_there xs i (head_there xs h e).0 within_rows p
+module _ (w : Rewrite) (rs left rest : List Row) (r : Row) (e : left ≡ r ∷ rest) (n : ℕ) (inv : Counted w rs left n) where
+  refuses_step : refuses w left ≡ (breaks (fate_of w r) || refuses w rest)
+  unfolding refuses
+  refuses_step = ap (refuses w) e
 
-  module _ (r : Row) (p : Some r ≡ row_in (words_of xs) i) where
-    here : get_or (rows_in xs) i r ≡ r
-    here = row_there xs i (head_there xs h e).0 within_rows r p
+  rewritten_step : rewritten w left ≡ staying (fate_of w r) ++ rewritten w rest
+  unfolding rewritten
+  rewritten_step = ap (rewritten w) e
 
-    pub count_stays : (x : Row) (m : ℕ) → Stays x ≡ fate_of w r → m ≡ n + 1 → Counted w (rows_in xs) (i + 1) m
-    count_stays x m f c =
-        let a = refuses_step w (rows_in xs) i r within_rows here in
-        let b = rewritten_step w (rows_in xs) i r within_rows here in
-        let g : rewritten w (drop i (rows_in xs)) ≡ x ∷ rewritten w (drop (i + 1) (rows_in xs)) = b ∙ ap (λ t. staying t ++ rewritten w (drop (i + 1) (rows_in xs))) (sym f) in
-        let k = ap length g in
-        (ap (λ t. breaks t || refuses w (drop (i + 1) (rows_in xs))) f ∙ sym a ∙ inv.0, omega (arith, k, inv.1), omega (arith, inv.2))
+  pub count_one : (o : Option Row) (m : ℕ) → fate_of w r ≡ Some o → m ≡ n + length (staying (Some o)) → Counted w rs rest m
+  count_one o m f c =
+      let k = ap length (rewritten_step ∙ ap (λ t. staying t ++ rewritten w rest) f) ∙ length-append (staying (Some o)) (rewritten w rest) in
+      (ap (λ t. breaks t || refuses w rest) (sym f) ∙ sym refuses_step ∙ inv.0, omega (arith, k, inv.1), omega (arith, ap length e, staying_few o, c, inv.2))
 
-    pub count_goes : (m : ℕ) → Goes ≡ fate_of w r → m ≡ n → Counted w (rows_in xs) (i + 1) m
-    count_goes m f c =
-        let a = refuses_step w (rows_in xs) i r within_rows here in
-        let b = rewritten_step w (rows_in xs) i r within_rows here in
-        let g : rewritten w (drop i (rows_in xs)) ≡ rewritten w (drop (i + 1) (rows_in xs)) = b ∙ ap (λ t. staying t ++ rewritten w (drop (i + 1) (rows_in xs))) (sym f) in
-        let k = ap length g in
-        (ap (λ t. breaks t || refuses w (drop (i + 1) (rows_in xs))) f ∙ sym a ∙ inv.0, omega (arith, k, inv.1), omega (arith, inv.2))
+  pub count_breaks : (there : Bool) → fate_of w r ≡ None → None ≡ survey w there rs
+  count_breaks there f = survey_refused w there rs (sym inv.0 ∙ refuses_step ∙ ap (λ t. breaks t || refuses w rest) f)
 
-    pub count_breaks : TooLarge ≡ fate_of w r → None ≡ survey w (is_some (file_in xs)) (rows_in xs)
-    count_breaks f =
-        let a = refuses_step w (rows_in xs) i r within_rows here in
-        survey_refused w (is_some (file_in xs)) (rows_in xs) (sym inv.0 ∙ a ∙ ap (λ t. breaks t || refuses w (drop (i + 1) (rows_in xs))) (sym f))
-
-pub count_end : (w : Rewrite) (xs : List ℕ) (h : Head) (i n : ℕ) → Some h ≡ option_map head_of (file_in xs) → h.count ≤ i → Counted w (rows_in xs) i n → Some n ≡ survey w (is_some (file_in xs)) (rows_in xs)
+pub count_end : (w : Rewrite) (rs left : List Row) (n : ℕ) (there : Bool) → left ≡ [] → there ≡ true → Counted w rs left n → Some n ≡ survey w there rs
 unfolding rewritten refuses
-count_end w xs h i n e l inv =
-    let p = head_there xs h e in
-    let a = at_drop_all (refuses w) (rows_in xs) i (omega (arith, p.1)) in
-    let b = ap length (at_drop_all (rewritten w) (rows_in xs) i (omega (arith, p.1))) in
-    survey_counted w (is_some (file_in xs)) (rows_in xs) n p.0 (sym inv.0 ∙ a) (omega (arith, b, inv.1))
+count_end w rs left n there e t inv = survey_counted w there rs n t (sym inv.0 ∙ ap (refuses w) e) (omega (arith, ap (λ l. length (rewritten w l)) e, inv.1))

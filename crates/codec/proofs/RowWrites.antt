@@ -6,8 +6,6 @@ use Rattle.std.proofs.lemmas.Bool.{and_parts, leb-true, or_cases}
 use Rattle.rows.specs.declared.row.Row.{Row}
 use Rattle.rows.specs.declared.span.Span.{Span}
 use Rattle.rows.specs.Checks.{some_else}
-use Rattle.codec.specs.declared.rewrite.Fate.{Fate}
-use Rattle.codec.specs.declared.rewrite.Fate.TheVariants.{Stays, Goes, TooLarge}
 use Rattle.codec.specs.declared.rewrite.Part.{Part}
 use Rattle.codec.specs.declared.rewrite.Rewrite.{Rewrite}
 use Rattle.codec.specs.Files.{File, file_in, row_in, row_words}
@@ -56,11 +54,6 @@ pub widened_push : (s : Span) (rs : List Row) (r : Row) → widened_by s (rs ++ 
 widened_push s [] r = refl
 widened_push s (x ∷ rs) r = widened_push (widened x.key s) rs r
 
-pub not_staying : (f : Fate) → ((x : Row) → f ≡ Stays x → ⊥) → staying f ≡ []
-not_staying (Stays x) h = absurd (h x refl)
-not_staying Goes h = refl
-not_staying TooLarge h = refl
-
 abbrev pub SoFar : Rewrite → List ℕ → Part → Part → ℕ → Span → ℕ → List ℕ → ℕ → Span → Type 0
 SoFar w B p t k s i cur n keys =
     let rs = rewritten w (take i (rows_in (part_in p B))) in
@@ -92,21 +85,21 @@ module _ (w : Rewrite) (B : List ℕ) (p t : Part) (k : ℕ) (s : Span) (inside 
     bounded : length (bytes_of (row_words (rewritten w (take i (rows_in (part_in p B)))))) ≤ 16 * length (rewritten w (rows_in (part_in p B)))
     bounded = omega (arith, length_bytes_of (row_words (done i)), length_row_words (done i), rewritten_halves w rows i)
 
-    pub part_same : take (p.start + p.length - p.start) (drop p.start cur) ≡ part_in p B
+    part_same : part_in p cur ≡ part_in p B
     part_same =
-        ap (λ m. take m (drop p.start cur)) (omega arith) ∙ ap (part_in p) inv.0
+        ap (part_in p) inv.0
         ∙ read_apart p.start p.length t.start t.length (t.start + 8 * (3 + 2 * k)) (bytes_of (row_words (done i))) B (source B t p valid).away (omega arith) (omega (arith, bounded)) (omega arith)
 
-    module _ (h : i < p.length / 16 - 2) where
+    module _ (h : i < p.length / 16 - 2) (lent : List ℕ) (is : lent ≡ part_in p cur) where
       within_rows : i < length (rows_in (part_in p B))
       within_rows = omega (arith, how_many)
 
-      pub put_no_row : None ≡ row_in (words_of (take (p.start + p.length - p.start) (drop p.start cur))) i → ⊥
-      put_no_row e = row_not_there (part_in p B) i (source B t p valid).there within_rows (e ∙ ap (λ l. row_in (words_of l) i) part_same)
+      pub put_no_row : None ≡ row_in (words_of lent) i → ⊥
+      put_no_row e = row_not_there (part_in p B) i (source B t p valid).there within_rows (e ∙ ap (λ l. row_in (words_of l) i) (is ∙ part_same))
 
-      module _ (r : Row) (e : Some r ≡ row_in (words_of (take (p.start + p.length - p.start) (drop p.start cur))) i) where
+      module _ (r : Row) (e : Some r ≡ row_in (words_of lent) i) where
         here : get_or (rows_in (part_in p B)) i r ≡ r
-        here = row_there (part_in p B) i (source B t p valid).there within_rows r (e ∙ ap (λ l. row_in (words_of l) i) part_same)
+        here = row_there (part_in p B) i (source B t p valid).there within_rows r (e ∙ ap (λ l. row_in (words_of l) i) (is ∙ part_same))
 
         more : rewritten w (take (i + 1) (rows_in (part_in p B))) ≡ rewritten w (take i (rows_in (part_in p B))) ++ staying (fate_of w r)
         more = rewritten_more w rows i r within_rows here
@@ -121,9 +114,9 @@ module _ (w : Rewrite) (B : List ℕ) (p t : Part) (k : ℕ) (s : Span) (inside 
               ap length a ∙ inv.4,
             )
 
-        module _ (x : Row) (f : Stays x ≡ fate_of w r) where
+        module _ (x : Row) (f : staying (fate_of w r) ≡ x ∷ []) where
           longer : rewritten w (take (i + 1) (rows_in (part_in p B))) ≡ rewritten w (take i (rows_in (part_in p B))) ++ x ∷ []
-          longer = more ∙ ap (λ t. done i ++ staying t) (sym f)
+          longer = more ∙ ap (λ l. done i ++ l) f
 
           one_more : length (rewritten w (take i (rows_in (part_in p B)))) + 1 ≤ length (rewritten w (rows_in (part_in p B)))
           one_more = omega (arith, ap length longer, length_push (done i) x, rewritten_halves w rows (i + 1))

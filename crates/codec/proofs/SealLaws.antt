@@ -1,11 +1,12 @@
 -- The laws of numbers with their sum: what was sealed is found again, and only what was sealed is found.
-use Rattle.std.proofs.Common.{◌≡◌, ℕ, ◌+◌, ◌-◌, ◌*◌, ◌/◌, ◌%◌, ◌^◌, ◌<◌, ◌≤◌, Bool, true, false, cond, eqb, ltb, leb, List, [], ◌∷◌, ◌++◌, length, get_or, take, drop, Some, None, sum, Option, sym, refl, ap, ◌∙◌, subst, arith}
-use Rattle.std.proofs.lemmas.List.{append-nil, length-take-le, length_push, get_or_push, take_at, take_more, take_all}
+use Rattle.std.proofs.Common.{◌≡◌, ℕ, ◌+◌, ◌-◌, ◌*◌, ◌/◌, ◌%◌, ◌^◌, ◌<◌, ◌≤◌, Bool, true, false, cond, eqb, ltb, List, [], ◌∷◌, ◌++◌, length, get_or, take, Some, None, sum, Option, sym, refl, ap, ◌∙◌, subst, arith}
+use Rattle.std.proofs.lemmas.List.{append-nil, length-take-le, length_push, get_or_push, map_push, take_at, take_more, take_all}
 use Rattle.std.proofs.ByRecursion.{All-push, All-take}
-use Rattle.std.proofs.lemmas.Bool.{ne_eqb, eq-eqb, le-ltb, lt-ltb, and_parts, eqb-true, ltb-true, leb-true, le-leb, lt-leb}
-use Rattle.codec.specs.Words.{AreBytes, AreWords, put_at, words, words_of, bytes_of}
+use Rattle.std.proofs.lemmas.Bool.{ne_eqb, eq-eqb, le-ltb, lt-ltb, and_parts, eqb-true, ltb-true, le-leb, lt-leb}
+use Rattle.std.specs.Simd.{first_chunks}
+use Rattle.codec.specs.Words.{AreBytes, AreWords, le, numbers, put_at, words, words_of, bytes_of}
 use Rattle.codec.specs.Seals.{sealed, sealed_bytes, unsealed, written}
-use Rattle.codec.proofs.WordLaws.{length_words, length_bytes_of, words_bytes, bytes_words, words_below, put_on, front_words, put_front}
+use Rattle.codec.proofs.WordLaws.{chunk_numbers, length_words, length_bytes_of, words_bytes, bytes_words, words_below, put_on, front_words, put_front}
 
 pub cond_some : {A : Type 0} (b : Bool) (x y : A) → cond b (Some x) None ≡ Some y → (b ≡ true) × (x ≡ y)
 cond_some true x y e = (refl, cc)
@@ -27,13 +28,22 @@ module _ (xs : List ℕ) where
   unfolding unsealed
   unsealed_empty g h = rw (eq-eqb (length xs % 8) 0 g, le-ltb 0 (length xs) (omega arith))
 
-  pub unsealed_other : length xs % 8 ≡ 0 → 0 < length xs → (SumIsLast → ⊥) → unsealed xs ≡ None
-  unfolding unsealed
-  unsealed_other g p h = rw (eq-eqb (length xs % 8) 0 g, lt-ltb 0 (length xs) p, ne_eqb (get_or (words_of xs) last 0) (sum (take last (words_of xs)) % 2 ^ 64) h)
-
   pub unsealed_done : length xs % 8 ≡ 0 → 0 < length xs → SumIsLast → unsealed xs ≡ Some (take last (words_of xs))
   unfolding unsealed
   unsealed_done g p h = rw (eq-eqb (length xs % 8) 0 g, lt-ltb 0 (length xs) p, eq-eqb (get_or (words_of xs) last 0) (sum (take last (words_of xs)) % 2 ^ 64) h)
+
+  -- the bytes as numbers, of which the last may be the sum
+  pub unsealed_by_sum : (front : List (List ℕ)) (last : List ℕ) → length xs % 8 ≡ 0 → first_chunks 8 (length xs / 8) xs ≡ front ++ last ∷ []
+      → cond (eqb (le last) (sum (numbers front) % 2 ^ 64)) (Some (numbers front)) None ≡ unsealed xs
+  unfolding unsealed
+  unsealed_by_sum front last g e =
+      let F = numbers front in
+      let w : words_of xs ≡ numbers front ++ le last ∷ [] = sym (chunk_numbers (length xs / 8) xs) ∙ ap numbers e ∙ map_push le front last in
+      let l : length xs / 8 ≡ length (numbers front) + 1 = sym (length_words (length xs / 8) xs) ∙ ap length w ∙ length_push F (le last) in
+      let n : length xs / 8 - 1 ≡ length (numbers front) = omega (arith, l) in
+      let t : take (length xs / 8 - 1) (words_of xs) ≡ numbers front = ap (λ j. take j (words_of xs)) n ∙ ap (take (length F)) w ∙ take_at F (le last ∷ []) (length F) refl in
+      let v : get_or (words_of xs) (length xs / 8 - 1) 0 ≡ le last = ap (λ j. get_or (words_of xs) j 0) n ∙ ap (λ l. get_or l (length F) 0) w ∙ get_or_push F (le last) 0 (length F) refl in
+      rw (eq-eqb (length xs % 8) 0 g, lt-ltb 0 (length xs) (omega (arith, l)), v, t)
 
 -- what bytes are from which numbers were unsealed
 pub record Sealing (xs ws : List ℕ) : Type 0 where
@@ -101,11 +111,3 @@ written_done bs xs cur r h e f = rw (le-leb (length bs) (length xs) h, e, f, put
 
 pub written_not : (bs xs : List ℕ) → length xs < length bs → ◌≡◌ {A = Option ℕ × List ℕ} (None, xs) (written bs xs)
 written_not bs xs h = rw (lt-leb (length bs) (length xs) h)
-
-pub written_some : (bs xs cur : List ℕ) (n : ℕ) → ◌≡◌ {A = Option ℕ × List ℕ} (Some n, cur) (written bs xs) → (length bs ≤ length xs) × (n ≡ length bs) × (cur ≡ bs ++ drop (length bs) xs)
-written_some bs xs cur n e = go (leb (length bs) (length xs)) refl (ap (λ (p : Option ℕ × List ℕ). p.0) e) (ap (λ (p : Option ℕ × List ℕ). p.1) e)
-  where
-    go : (b : Bool) → leb (length bs) (length xs) ≡ b → Some n ≡ (cond {A = Option ℕ × List ℕ} b (Some (length bs), bs ++ drop (length bs) xs) (None, xs)).0 → cur ≡ (cond {A = Option ℕ × List ℕ} b (Some (length bs), bs ++ drop (length bs) xs) (None, xs)).1
-        → (length bs ≤ length xs) × (n ≡ length bs) × (cur ≡ bs ++ drop (length bs) xs)
-    go true t f g = (leb-true (length bs) (length xs) t, cc, g)
-    go false t f g = absurd (let z : ◌≡◌ {A = ℕ} 0 1 = cc in omega arith)

@@ -1,5 +1,5 @@
 -- The sources of a file that is written anew, surveyed one by one.
-use Rattle.std.proofs.Common.{◌≡◌, ℕ, ◌+◌, ◌-◌, ◌<◌, ◌≤◌, Bool, true, false, cond, not, ◌&&◌, ◌||◌, leb, ◌⊎◌, List, ◌++◌, length, get_or, take, drop, is_some, Some, None, Option, sym, refl, ap, ◌∙◌, inl, inr, arith}
+use Rattle.std.proofs.Common.{◌≡◌, ℕ, ◌+◌, ◌-◌, ◌<◌, ◌≤◌, Bool, true, false, cond, not, ◌&&◌, ◌||◌, leb, ◌⊎◌, List, ◌++◌, length, get_or, drop, is_some, Some, None, Option, sym, refl, ap, ◌∙◌, inl, inr, arith}
 use Rattle.std.proofs.lemmas.List.{at_drop_more, at_drop_all, length-append}
 use Rattle.std.proofs.lemmas.Bool.{lt-leb, le-leb}
 use Rattle.rows.specs.declared.row.Row.{Row}
@@ -31,10 +31,10 @@ survey_none w there rs e = by there (refuses w rs) e
 pub survey_absent : (w : Rewrite) (there : Bool) (rs : List Row) → there ≡ false → None ≡ survey w there rs
 survey_absent w there rs e = ap (λ t. cond (t && not (refuses w rs)) (Some (length (rewritten w rs))) None) (sym e)
 
-pub part_surveyed : (w : Rewrite) (xs : List ℕ) (t p : Part) (o : Option ℕ) (k : ℕ) → true ≡ lies_in p (length xs) → true ≡ apart p t → k ≡ p.length
-    → o ≡ survey w (is_some (file_in (take k (drop p.start xs)))) (rows_in (take k (drop p.start xs))) → o ≡ survey w (is_source xs t p) (rows_in (part_in p xs))
-part_surveyed w xs t p o k a b e f =
-    f ∙ ap (λ n. survey w (is_some (file_in (take n (drop p.start xs)))) (rows_in (take n (drop p.start xs)))) e
+pub part_surveyed : (w : Rewrite) (xs lent : List ℕ) (t p : Part) (o : Option ℕ) → lent ≡ part_in p xs → true ≡ lies_in p (length xs) → true ≡ apart p t
+    → o ≡ survey w (is_some (file_in lent)) (rows_in lent) → o ≡ survey w (is_source xs t p) (rows_in (part_in p xs))
+part_surveyed w xs lent t p o e a b f =
+    f ∙ ap (λ l. survey w (is_some (file_in l)) (rows_in l)) e
     ∙ ap (λ c. survey w (c && is_some (file_in (part_in p xs))) (rows_in (part_in p xs))) b
     ∙ ap (λ c. survey w (c && (apart p t && is_some (file_in (part_in p xs)))) (rows_in (part_in p xs))) a
 
@@ -68,9 +68,6 @@ survey_all_many w xs t ps h = by (every (is_source xs t) ps) (refuses w (source_
 
 module _ (w : Rewrite) (xs : List ℕ) (t : Part) (ps : List Part) (i n : ℕ) (inv : Surveyed w xs t ps i n) where
   module _ (d : Part) (h : i < length ps) where
-    rows_here : List Row
-    rows_here = rows_in (part_in (get_or ps i d) xs)
-
     left : source_rows xs (drop i ps) ≡ rows_in (part_in (get_or ps i d) xs) ++ source_rows xs (drop (i + 1) ps)
     left = at_drop_more (source_rows xs) ps i d h
 

@@ -2,11 +2,14 @@
 use Rattle.std.proofs.Common.{◌≡◌, ℕ, zero, suc, ◌+◌, ◌-◌, ◌*◌, ◌/◌, ◌%◌, ◌^◌, ◌<◌, ◌≤◌, leb, List, [], ◌∷◌, ◌++◌, length, get_or, take, drop, Some, sum, sym, refl, ap, ◌∙◌, pow-suc, arith}
 use native.Mathlib.Nat.{div-div-eq-div-mul}
 use borrow.Rule.Slice.PartMut.{put_mid}
-use Rattle.std.proofs.lemmas.List.{append-nil, append_assoc, drop-drop, drop_all, drop-append-le, drop_at, drop-take, length-append, length-take, length-take-le, length-drop, take_at, take-append-drop, take-append-le, take_more, take_rest, take-take}
+use Rattle.std.proofs.lemmas.List.{get_or-take, get_or-drop, append-nil, append_assoc, drop-drop, drop_all, drop_at, drop-take, length-append, length-take, length-take-le, length-drop, take_at, take-append-drop, take-append-le, take_more, take_rest, take-take}
 use Rattle.std.proofs.ByRecursion.{All-take, All-drop}
-use Rattle.std.proofs.lemmas.List.Sums.{sum_by_more}
+use Rattle.std.proofs.lemmas.List.Sums.{sum_by-cons}
+use Rattle.std.proofs.Math.Nat.{mul-suc}
+use Rattle.std.specs.Prelude.{fold}
+use Rattle.std.specs.Simd.{first_chunks}
 use Rattle.codec.proofs.BoundLaws.{some_of_cond}
-use Rattle.codec.specs.Words.{AreBytes, AreWords, le, word_from, bytes_le, put_at, bytes_of, words, words_of}
+use Rattle.codec.specs.Words.{AreBytes, AreWords, le, numbers, word_from, bytes_le, put_at, bytes_of, words, words_of}
 
 -- eight bytes, as the code makes them of a number and a number of them
 pub bytes_eight : (x : ℕ) → (x % 256) ∷ (x / 256 % 256) ∷ (x / 65536 % 256) ∷ (x / 16777216 % 256) ∷ (x / 4294967296 % 256) ∷ (x / 1099511627776 % 256) ∷ (x / 281474976710656 % 256) ∷ (x / 72057594037927936 % 256) ∷ [] ≡ bytes_le 8 x
@@ -155,44 +158,46 @@ bytes_words (suc n) xs a h =
     ap (λ l. l ++ bytes_of (words n (drop 8 xs))) (bytes_le_le 8 (take 8 xs) (All-take (λ b. b < 256) 8 xs a) m)
     ∙ ap (λ l. take 8 xs ++ l) (bytes_words n (drop 8 xs) (All-drop (λ b. b < 256) 8 xs a) d) ∙ take-append-drop 8 xs
 
--- the numbers of a part of bytes are a part of the numbers
-words_append : (n : ℕ) (xs ys : List ℕ) → 8 * n ≤ length xs → words n (xs ++ ys) ≡ words n xs
+-- bytes cut into numbers
+pub chunk_numbers : (n : ℕ) (xs : List ℕ) → numbers (first_chunks 8 n xs) ≡ words n xs
 unfolding words
-words_append zero xs ys h = refl
-words_append (suc n) xs ys h =
-    ap (λ l. le l ∷ words n (drop 8 (xs ++ ys))) (take-append-le 8 xs ys (omega arith)) ∙ ap (λ l. le (take 8 xs) ∷ words n l) (drop-append-le 8 xs ys (omega arith))
-    ∙ ap (λ l. le (take 8 xs) ∷ l) (words_append n (drop 8 xs) ys (omega (arith, length-drop 8 xs)))
+chunk_numbers zero xs = refl
+chunk_numbers (suc n) xs = ap (λ l. le (take 8 xs) ∷ l) (chunk_numbers n (drop 8 xs))
 
-drop_words : (k m n : ℕ) (xs : List ℕ) → n ≡ k + m → drop k (words n xs) ≡ words m (drop (8 * k) xs)
-unfolding words
-drop_words zero m n xs h = ap (λ j. words j xs) (h ∙ omega arith)
-drop_words (suc k) m zero xs h = absurd (omega arith)
-drop_words (suc k) m (suc n) xs h = drop_words k m n (drop 8 xs) (omega arith) ∙ ap (words m) (drop-drop (8 * k) 8 xs ∙ ap (λ j. drop j xs) (omega arith))
+pub get_or_numbers : (ws : List (List ℕ)) (k : ℕ) → le (get_or ws k []) ≡ get_or (numbers ws) k 0
+get_or_numbers [] k = refl
+get_or_numbers (w ∷ ws) zero = refl
+get_or_numbers (w ∷ ws) (suc k) = get_or_numbers ws k
 
-pub words_drop : (a : ℕ) (xs : List ℕ) → 8 * a ≤ length xs → words_of (drop (8 * a) xs) ≡ drop a (words_of xs)
-words_drop a xs h =
-    let n = length-drop (8 * a) xs in
-    sym (drop_words a (length (drop (8 * a) xs) / 8) (length xs / 8) xs (omega arith))
+pub get_or_first_chunks : {A : Type 0} (k n : ℕ) (xs : List A) (i : ℕ) (d : List A) → i < n → get_or (first_chunks k n xs) i d ≡ take k (drop (k * i) xs)
+get_or_first_chunks k zero xs i d h = absurd (omega arith)
+get_or_first_chunks k (suc n) xs zero d h = let at : 0 ≡ k * 0 = omega arith in ap (λ j. take k (drop j xs)) at
+get_or_first_chunks k (suc n) xs (suc i) d h =
+    let at : k + k * i ≡ k * suc i = omega (arith, mul-suc k i) in
+    get_or_first_chunks k n (drop k xs) i d (omega arith) ∙ ap (take k) (drop-drop (k * i) k xs) ∙ ap (λ j. take k (drop j xs)) at
 
-pub words_take : (m : ℕ) (xs : List ℕ) → 8 * m ≤ length xs → words_of (take (8 * m) xs) ≡ take m (words_of xs)
-words_take m xs h =
-    let n = length-take-le (8 * m) xs h in
-    ap (λ j. words j (take (8 * m) xs)) (omega arith) ∙ sym (words_append m (take (8 * m) xs) (drop (8 * m) xs) (omega arith))
-    ∙ ap (words m) (take-append-drop (8 * m) xs) ∙ sym (take_words m (length xs / 8) xs (omega arith))
+-- the numbers of a part, and one of a chunk
+pub numbers_front : (n j : ℕ) (ws head : List (List ℕ)) → head ≡ take n ws → j < n → le (get_or head j []) ≡ get_or (numbers ws) j 0
+numbers_front n j ws head e h = ap (λ l. le (get_or l j [])) e ∙ ap le (get_or-take n ws j [] h) ∙ get_or_numbers ws j
 
--- of `&xs[j..j + n]` and `&xs[j..]`
-pub words_part : (xs : List ℕ) (a m j n : ℕ) → j ≡ 8 * a → n ≡ 8 * m → 8 * (a + m) ≤ length xs → words_of (take n (drop j xs)) ≡ take m (drop a (words_of xs))
-words_part xs a m j n e f h =
-    ap (λ i. words_of (take n (drop i xs))) e ∙ ap (λ i. words_of (take i (drop (8 * a) xs))) f
-    ∙ words_take m (drop (8 * a) xs) (omega (arith, length-drop (8 * a) xs)) ∙ ap (take m) (words_drop a xs (omega arith))
+pub get_or_chunk : {A : Type 0} (k n i j : ℕ) (xs : List A) (chunks : List (List A)) (d : List A) (e : A) → chunks ≡ first_chunks k n xs → i < n → j < k → get_or (get_or chunks i d) j e ≡ get_or xs (k * i + j) e
+get_or_chunk k n i j xs chunks d e are h l =
+    ap (λ c. get_or (get_or c i d) j e) are ∙ ap (λ c. get_or c j e) (get_or_first_chunks k n xs i d h)
+    ∙ get_or-take k (drop (k * i) xs) j e l ∙ get_or-drop (k * i) xs j e
 
-pub words_rest : (xs : List ℕ) (a j : ℕ) → j ≡ 8 * a → 8 * a ≤ length xs → words_of (take (length xs - j) (drop j xs)) ≡ drop a (words_of xs)
-words_rest xs a j e h = ap words_of (take_rest xs j) ∙ ap (λ i. words_of (drop i xs)) e ∙ words_drop a xs h
+pub numbers_chunk : (k n i j : ℕ) (ws : List (List ℕ)) (chunks : List (List (List ℕ))) (d : List (List ℕ)) → chunks ≡ first_chunks k n ws → i < n → j < k
+    → le (get_or (get_or chunks i d) j []) ≡ get_or (numbers ws) (k * i + j) 0
+numbers_chunk k n i j ws chunks d are h l = ap le (get_or_chunk k n i j ws chunks d [] are h l) ∙ get_or_numbers ws (k * i + j)
 
--- one number more of a sum, and of a write
-pub sum_next : (xs : List ℕ) (k t w r : ℕ) → 8 * k + 8 ≤ length xs → t ≡ sum (take k (words_of xs)) % 2 ^ 64 → w ≡ get_or (words_of xs) k 0 → r ≡ (t + w) % 2 ^ 64 → r ≡ sum (take (k + 1) (words_of xs)) % 2 ^ 64
-sum_next xs k t w r h e f g = omega (arith, e, f, g, sum_by_more (λ x. x) (words_of xs) k 0 (omega (arith, length_words (length xs / 8) xs)))
+-- a sum taken modulo 2^64 at each number
+folded_from : (ws : List (List ℕ)) (t : ℕ) → t < 2 ^ 64 → fold (λ t w. (t + le w) % 2 ^ 64) t ws ≡ (t + sum (numbers ws)) % 2 ^ 64
+folded_from [] t h = omega arith
+folded_from (w ∷ ws) t h = folded_from ws ((t + le w) % 2 ^ 64) (omega arith) ∙ omega (arith, sum_by-cons (λ x. x) (le w) (numbers ws))
 
+pub sum_folded : (ws : List (List ℕ)) → fold (λ t w. (t + le w) % 2 ^ 64) 0 ws ≡ sum (numbers ws) % 2 ^ 64
+sum_folded ws = folded_from ws 0 (omega arith) ∙ omega arith
+
+-- one number more of a write
 pub put_next : (xs ws cur cur' : List ℕ) (k i : ℕ) → 8 * k + 8 * length ws ≤ length xs → i < length ws → cur ≡ put_at (8 * k) (bytes_of (take i ws)) xs → cur' ≡ put_at (8 * (k + i)) (bytes_le 8 (get_or ws i 0)) cur
     → cur' ≡ put_at (8 * k) (bytes_of (take (i + 1) ws)) xs
 put_next xs ws cur cur' k i room h e f =

@@ -7,6 +7,7 @@ use Rattle.codec.specs.declared.action.Action.{Action}
 use Rattle.codec.specs.declared.entry.Added.{Added}
 use Rattle.codec.specs.declared.entry.Change.{Change}
 use Rattle.codec.specs.declared.entry.Entry.{Entry}
+use Rattle.codec.specs.declared.entry.Front.{Front}
 use Rattle.codec.specs.Bounds.{is_key, is_word, every}
 use Rattle.codec.specs.Actions.{span, action_words, action_fits, action_in}
 use Rattle.codec.specs.Seals.{sealed_bytes, unsealed, written}
@@ -78,6 +79,10 @@ files_writable adds takes = files_fit adds takes && is_word (8 * (count_with add
 -- whether an entry can be written: it is in its bounds, and its length fits 64 bits
 unfoldable pub writable : LogEntry → Bool
 writable e = entry_fits e && is_word (length (entry_bytes e))
+
+-- what stands before the files of an entry that can be written, and how many numbers before its sum
+abbrev pub front_of : LogEntry → Option Front
+front_of e = cond (writable e) (Some (record { head = entry_head e; count = length (entry_words e) })) None
 
 -- how many bytes an entry takes
 abbrev pub entry_length : LogEntry → Option ℕ

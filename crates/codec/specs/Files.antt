@@ -1,13 +1,14 @@
 -- What a file says, its bounds, and the numbers and bytes that it is.
-use Rattle.std.specs.Prelude.{ℕ, ◌+◌, ◌*◌, Bool, cond, ◌&&◌, List, [], ◌∷◌, length, drop, Some, None, Option, ◌==◌, nat_le, nat_lt, slice_index}
+use Rattle.std.specs.Prelude.{ℕ, ◌+◌, ◌*◌, Bool, cond, ◌&&◌, List, [], ◌∷◌, length, drop, map, Some, None, Option, ◌==◌, nat_le, nat_lt, slice_index, slice_index_or}
 use Rattle.rows.specs.declared.row.Row.{Row}
 use Rattle.rows.specs.Checks.{some_else}
 use Rattle.rows.specs.Numbers.{row}
 use Rattle.rows.specs.Rows.{amount_limit}
 use Rattle.codec.specs.declared.file.Head.{Head}
-use Rattle.codec.specs.Bounds.{is_key, is_word}
-use Rattle.codec.specs.Bounds.{every}
+use Rattle.codec.specs.declared.file.Rows.{Rows}
+use Rattle.codec.specs.Bounds.{is_key, is_word, every}
 use Rattle.codec.specs.Seals.{sealed_bytes, unsealed}
+use Rattle.codec.specs.Words.{le, words_of}
 
 pub record File : Type 0 where
   pub number : ℕ
@@ -71,6 +72,25 @@ head_of f = record { number = f.number; began = f.began; count = length f.rows }
 abbrev pub row_of : ℕ → ℕ → Option Row
 row_of k a = cond (row_fits (row k a)) (Some (row k a)) None
 
+-- the row of a pair that is lent as its bytes, and whether it is in its bounds
+abbrev pub row_read : List (List ℕ) → Row
+row_read p = row (le (slice_index_or p 0 [])) (le (slice_index_or p 1 []))
+
+abbrev pub row_fitting : Row → Option Row
+row_fitting r = cond (row_fits r) (Some r) None
+
 -- the i-th row among the numbers of a file, with no look at the others
 abbrev pub row_in : List ℕ → ℕ → Option Row
 row_in ws i = cond (nat_le (5 + 2 * i) (length ws)) (row_of (slice_index ws (3 + 2 * i)) (slice_index ws (4 + 2 * i))) None
+
+-- the rows at the front of others that are in their bounds
+abbrev pub fitting : List Row → List Row
+fitting [] = []
+fitting (r ∷ rs) = cond (row_fits r) (r ∷ fitting rs) []
+
+-- the rows that are still to come, and those that bytes give
+abbrev pub rows_left : Rows → List Row
+rows_left s = fitting (map row_read s.left.now)
+
+abbrev pub rows_from : List ℕ → List Row
+rows_from xs = fitting (pairs (drop 3 (words_of xs)))

@@ -5,8 +5,6 @@ use Rattle.rows.specs.declared.row.Row.{Row}
 use Rattle.rows.specs.declared.span.Span.{Span}
 use Rattle.rows.specs.Checks.{some_else, any}
 use Rattle.rows.specs.Rows.{within, raised_row}
-use Rattle.codec.specs.declared.rewrite.Fate.{Fate}
-use Rattle.codec.specs.declared.rewrite.Fate.TheVariants.{Stays, Goes, TooLarge}
 use Rattle.codec.specs.declared.rewrite.Part.{Part}
 use Rattle.codec.specs.declared.rewrite.Rewrite.{Rewrite}
 use Rattle.codec.specs.declared.rewrite.Rewrite.TheVariants.{Whole, Outside, Raised}
@@ -17,21 +15,20 @@ use Rattle.codec.specs.Keys.{widened}
 use Rattle.codec.specs.Words.{put_at}
 use Rattle.codec.specs.Writes.{told_of, writes}
 
--- what becomes of a row
-abbrev pub fate_of : Rewrite → Row → Fate
-fate_of Whole r = Stays r
-fate_of (Outside s) r = cond (within s r) Goes (Stays r)
-fate_of (Raised s n) r = some_else (raised_row s n r) TooLarge (λ x. Stays x)
+-- what becomes of a row: none where an amount would be too large, and none within where it goes
+abbrev pub fate_of : Rewrite → Row → Option (Option Row)
+fate_of Whole r = Some (Some r)
+fate_of (Outside s) r = cond (within s r) (Some None) (Some (Some r))
+fate_of (Raised s n) r = some_else (raised_row s n r) None (λ x. Some (Some x))
 
-abbrev pub staying : Fate → List Row
-staying (Stays r) = r ∷ []
-staying Goes = []
-staying TooLarge = []
+abbrev pub staying : Option (Option Row) → List Row
+staying (Some (Some r)) = r ∷ []
+staying (Some None) = []
+staying None = []
 
-abbrev pub breaks : Fate → Bool
-breaks (Stays r) = false
-breaks Goes = false
-breaks TooLarge = true
+abbrev pub breaks : Option (Option Row) → Bool
+breaks (Some o) = false
+breaks None = true
 
 -- the rows that stay, as they are written anew
 unfoldable pub rewritten : Rewrite → List Row → List Row

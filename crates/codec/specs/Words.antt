@@ -1,5 +1,5 @@
 -- Bytes and the numbers that they write, eight bytes to each, the least byte first.
-use Rattle.std.specs.Prelude.{ℕ, zero, suc, ◌+◌, ◌*◌, ◌/◌, ◌%◌, ◌^◌, ◌<◌, cond, List, [], ◌∷◌, ◌++◌, length, take, drop, Some, None, Option, nat_le}
+use Rattle.std.specs.Prelude.{ℕ, zero, suc, ◌+◌, ◌*◌, ◌/◌, ◌%◌, ◌^◌, ◌<◌, cond, List, [], ◌∷◌, ◌++◌, length, take, drop, map, Some, None, Option, nat_le}
 use Rattle.std.specs.List.{AllByRecursion}
 
 abbrev pub AreBytes : List ℕ → Type 0
@@ -12,6 +12,10 @@ AreWords ws = AllByRecursion (λ w. w < 2 ^ 64) ws
 abbrev pub le : List ℕ → ℕ
 le [] = 0
 le (b ∷ bs) = b + le bs * 256
+
+-- the numbers that are lent as their bytes
+abbrev pub numbers : List (List ℕ) → List ℕ
+numbers ws = map le ws
 
 -- the number that the eight bytes from a byte on write; none where they are cut short
 abbrev pub word_from : ℕ → List ℕ → Option ℕ

@@ -1,16 +1,17 @@
 // Entries of the log as bytes: place, writer, serial, kind and three numbers of the action, rows touched, how many files come and how many go,
 // number, smallest and largest key of each that comes, number of each that goes, and the sum of all these modulo 2^64.
-ghost use Rattle.std.specs.Prelude.{◌≡◌, ◌+◌, ◌*◌, ◌%◌, ◌≤◌, true, [], ◌∷◌, ◌++◌, length, IfOk, if◌then◌else◌, Some, None, Ok, vec_items};
+ghost use Rattle.std.specs.Prelude.{◌≡◌, ◌+◌, ◌*◌, ◌%◌, ◌^◌, ◌<◌, ◌≤◌, true, [], ◌∷◌, ◌++◌, length, IfOk, if◌then◌else◌, Some, None, Ok, vec_items};
+ghost use Rattle.std.specs.List.{list_all};
 ghost use Rattle.std.specs.Option.{option_map};
 ghost use Rattle.rows.specs.Refusals.{UnlessOut};
 ghost use Rattle.codec.specs.Bounds.{is_word};
 ghost use Rattle.codec.specs.Actions.{action_words, action_fits};
-ghost use Rattle.codec.specs.Words.{put_at, bytes_of, words_of};
-ghost use Rattle.codec.specs.Entries.{added_of, added_fits, count_with, files_writable, added_words, adds_in, takes_in, change_of, change_from, entry_of, entry_head, entry_words, writable, entry_length, entry_written, entry_in, entry_read};
+ghost use Rattle.codec.specs.Words.{put_at, bytes_of, numbers};
+ghost use Rattle.codec.specs.Entries.{added_of, added_fits, count_with, files_writable, added_words, adds_in, takes_in, change_of, change_from, entry_of, front_of, entry_length, entry_written, entry_in, entry_read};
 
-use crate::action::{Action, KEY_LIMIT, action_from, action_words};
+use crate::action::Action;
 use crate::seal::{put_seal, unseal};
-use crate::words::{put_words, word_at};
+use crate::words::{Word, number, put_words};
 use rows::refusal::Refusal;
 use rows::span::Span;
 use std::alloc::{AllocError, Global};
@@ -46,10 +47,12 @@ pub struct Entry {
     pub change: Change,
 }
 
-fn added_fits(added: Added) -> bool
-    ensures { result ≡ added_fits added }
-{
-    added.keys.from <= added.keys.to
+impl Added {
+    fn fits(self) -> bool
+        ensures { result ≡ added_fits self }
+    {
+        self.keys.from <= self.keys.to
+    }
 }
 
 // How many numbers an entry with these files has before its sum; none where its length would not fit.
@@ -65,20 +68,25 @@ fn count_words(adds: &[Added], takes: &[u32]) -> Option<usize>
     Some(10 + 3 * adds.len() + takes.len())
 }
 
+fn all_fit(adds: &[Added]) -> bool
+    ensures { result ≡ list_all added_fits adds.now }
+{
+    adds.iter().all(|added| added.fits())
+}
+
 // The same, and none also where a file is out of its bounds.
 fn files_words(adds: &[Added], takes: &[u32]) -> Option<usize>
     ensures { result ≡ (if files_writable adds.now takes.now then Some (count_with adds.now takes.now) else None) }
 {
-    for i in 0..adds.len() {
-        if !added_fits(adds[i]) {
-            return None;
-        }
+    if !all_fit(adds) {
+        return None;
     }
     count_words(adds, takes)
 }
 
-// The ten numbers of an entry before those of its files.
-fn head_words(
+// What stands before the files of an entry.
+#[derive(Clone, Copy)]
+struct Head {
     place: u64,
     writer: u8,
     serial: u64,
@@ -86,64 +94,74 @@ fn head_words(
     touched: u64,
     adds: usize,
     takes: usize,
-) -> [u64; 10]
-    ensures value { result ≡ place ∷ writer ∷ serial ∷ (action_words action ++ touched ∷ adds ∷ takes ∷ []) }
-    ensures fit { action_fits action ≡ true }
-{
-    let [kind, a, b, c] = action_words(action);
-    [
-        place,
-        writer as u64,
-        serial,
-        kind,
-        a,
-        b,
-        c,
-        touched,
-        adds as u64,
-        takes as u64,
-    ]
 }
 
-// How many numbers an entry has before its sum, and the first ten of them; none where it cannot be written.
-fn front(entry: &Entry) -> Option<(usize, [u64; 10])>
-    ensures { result ≡ (if writable (entry_of entry.now) then Some (length (entry_words (entry_of entry.now)), entry_head (entry_of entry.now)) else None) }
-{
-    if entry.writer >= WRITERS {
-        return None;
+impl Head {
+    fn words(self) -> [u64; 10]
+        ensures value { result ≡ self.place ∷ self.writer ∷ self.serial ∷ (action_words self.action ++ self.touched ∷ self.adds ∷ self.takes ∷ []) }
+        ensures fit { (self.place < 2 ^ 64) × (self.serial < 2 ^ 64) × (self.touched < 2 ^ 64) × (action_fits self.action ≡ true) }
+    {
+        let [kind, a, b, c] = <[u64; 4]>::from(self.action);
+        [
+            self.place,
+            self.writer as u64,
+            self.serial,
+            kind,
+            a,
+            b,
+            c,
+            self.touched,
+            self.adds as u64,
+            self.takes as u64,
+        ]
     }
-    let change = &entry.change;
-    let Some(count) = files_words(change.adds.as_slice(), change.takes.as_slice()) else {
-        return None;
-    };
-    let head = head_words(
-        entry.place,
-        entry.writer,
-        entry.serial,
-        change.action,
-        change.touched,
-        change.adds.len(),
-        change.takes.len(),
-    );
-    Some((count, head))
+}
+
+// The ten numbers before the files of an entry, and how many there are before its sum.
+#[derive(Clone, Copy)]
+struct Front {
+    head: [u64; 10],
+    count: usize,
+}
+
+impl Entry {
+    // None where the entry cannot be written.
+    fn front(&self) -> Option<Front>
+        ensures { result ≡ front_of (entry_of self.now) }
+    {
+        if self.writer >= WRITERS {
+            return None;
+        }
+        let change = &self.change;
+        let count = files_words(change.adds.as_slice(), change.takes.as_slice())?;
+        let head = Head {
+            place: self.place,
+            writer: self.writer,
+            serial: self.serial,
+            action: change.action,
+            touched: change.touched,
+            adds: change.adds.len(),
+            takes: change.takes.len(),
+        };
+        Some(Front {
+            head: head.words(),
+            count,
+        })
+    }
 }
 
 // How many bytes an entry takes; none where it is out of its bounds or its length does not fit.
 pub fn entry_length(entry: &Entry) -> Option<usize>
     ensures { result ≡ entry_length (entry_of entry.now) }
 {
-    let Some((words, _)) = front(entry) else {
-        return None;
-    };
-    Some(8 * (words + 1))
+    Some(8 * (entry.front()?.count + 1))
 }
 
 fn put_adds(out: &mut [u8], k: usize, adds: &[Added])
     requires { 8 * (k + 3 * length adds.now) ≤ length out.old }
     ensures { out.new ≡ put_at (8 * k) (bytes_of (added_words adds.now)) out.old }
 {
-    for i in 0..adds.len() {
-        let added = adds[i];
+    for (i, added) in adds.iter().enumerate() {
         put_words(
             out,
             k + 3 * i,
@@ -160,8 +178,8 @@ fn put_takes(out: &mut [u8], k: usize, takes: &[u32])
     requires { 8 * (k + length takes.now) ≤ length out.old }
     ensures { out.new ≡ put_at (8 * k) (bytes_of takes.now) out.old }
 {
-    for i in 0..takes.len() {
-        put_words(out, k + i, &[takes[i] as u64]);
+    for (i, number) in takes.iter().enumerate() {
+        put_words(out, k + i, &[*number as u64]);
     }
 }
 
@@ -169,14 +187,10 @@ fn put_takes(out: &mut [u8], k: usize, takes: &[u32])
 pub fn write_entry(entry: &Entry, out: &mut [u8]) -> Option<usize>
     ensures { (result, out.new) ≡ entry_written (entry_of entry.now) out.old }
 {
-    let Some(front) = front(entry) else {
-        return None;
-    };
-    let count = front.0;
+    let Front { head, count } = entry.front()?;
     if out.len() / 8 <= count {
         return None;
     }
-    let head = front.1;
     put_words(out, 0, &head);
     let change = &entry.change;
     put_adds(out, 10, change.adds.as_slice());
@@ -189,34 +203,25 @@ pub fn write_entry(entry: &Entry, out: &mut [u8]) -> Option<usize>
 fn added_from(number: u64, from: u64, to: u64) -> Option<Added>
     ensures { result ≡ (if added_fits (added_of number from to) then Some (added_of number from to) else None) }
 {
-    if number >= KEY_LIMIT {
+    let number = u32::try_from(number).ok()?;
+    let to = u32::try_from(to).ok()?;
+    if from > to as u64 {
         return None;
     }
-    if to >= KEY_LIMIT {
-        return None;
-    }
-    if from > to {
-        return None;
-    }
+    let from = from as u32;
     Some(Added {
-        number: number as u32,
-        keys: Span {
-            from: from as u32,
-            to: to as u32,
-        },
+        number,
+        keys: Span { from, to },
     })
 }
 
-fn read_adds(heap: Global, bytes: &[u8]) -> Result<Option<Vec<Added>>, AllocError>
-    requires { length bytes.now % 24 ≡ 0 }
-    ensures { IfOk result (λ o. option_map vec_items o ≡ adds_in (words_of bytes.now)) }
+fn read_adds(heap: Global, words: &[Word]) -> Result<Option<Vec<Added>>, AllocError>
+    requires { length words.now % 3 ≡ 0 }
+    ensures { IfOk result (λ o. option_map vec_items o ≡ adds_in (numbers words.now)) }
 {
     let mut adds = Vec::new(heap);
-    for i in 0..bytes.len() / 24 {
-        let number = word_at(bytes, 3 * i);
-        let from = word_at(bytes, 3 * i + 1);
-        let to = word_at(bytes, 3 * i + 2);
-        let Some(added) = added_from(number, from, to) else {
+    for [file, from, to] in words.as_chunks::<3>().0 {
+        let Some(added) = added_from(number(file), number(from), number(to)) else {
             return Ok(None);
         };
         adds.push(added)?;
@@ -224,53 +229,46 @@ fn read_adds(heap: Global, bytes: &[u8]) -> Result<Option<Vec<Added>>, AllocErro
     Ok(Some(adds))
 }
 
-fn read_takes(heap: Global, bytes: &[u8]) -> Result<Option<Vec<u32>>, AllocError>
-    ensures { IfOk result (λ o. option_map vec_items o ≡ takes_in (words_of bytes.now)) }
+fn read_takes(heap: Global, words: &[Word]) -> Result<Option<Vec<u32>>, AllocError>
+    ensures { IfOk result (λ o. option_map vec_items o ≡ takes_in (numbers words.now)) }
 {
     let mut takes = Vec::new(heap);
-    for i in 0..bytes.len() / 8 {
-        let number = word_at(bytes, i);
-        if number >= KEY_LIMIT {
+    for word in words {
+        let Ok(file) = u32::try_from(number(word)) else {
             return Ok(None);
-        }
-        takes.push(number as u32)?;
+        };
+        takes.push(file)?;
     }
     Ok(Some(takes))
 }
 
-fn read_change(heap: Global, bytes: &[u8]) -> Result<Option<Change>, AllocError>
-    ensures { IfOk result (λ o. option_map change_of o ≡ change_from (words_of bytes.now)) }
+fn read_change(heap: Global, words: &[Word]) -> Result<Option<Change>, AllocError>
+    ensures { IfOk result (λ o. option_map change_of o ≡ change_from (numbers words.now)) }
 {
-    let count = bytes.len() / 8;
-    if count < 7 {
-        return Ok(None);
-    }
-    let many_adds = word_at(bytes, 5);
-    if many_adds > (count as u64 - 7) / 3 {
-        return Ok(None);
-    }
-    let many_takes = word_at(bytes, 6);
-    if many_takes != count as u64 - 7 - 3 * many_adds {
-        return Ok(None);
-    }
-    let Some(action) = action_from(
-        word_at(bytes, 0),
-        word_at(bytes, 1),
-        word_at(bytes, 2),
-        word_at(bytes, 3),
-    ) else {
+    let Some(([kind, a, b, c, touched, adds, takes], files)) = words.split_first_chunk::<7>() else {
         return Ok(None);
     };
-    let middle = 56 + 24 * many_adds as usize;
-    let Some(adds) = read_adds(heap, &bytes[56..middle])? else {
+    let many_adds = number(adds);
+    let many_takes = number(takes);
+    if many_adds > files.len() as u64 / 3 {
+        return Ok(None);
+    }
+    let (adds, takes) = files.split_at(3 * many_adds as usize);
+    if many_takes != takes.len() as u64 {
+        return Ok(None);
+    }
+    let Ok(action) = Action::try_from([number(kind), number(a), number(b), number(c)]) else {
         return Ok(None);
     };
-    let Some(takes) = read_takes(heap, &bytes[middle..])? else {
+    let Some(adds) = read_adds(heap, adds)? else {
+        return Ok(None);
+    };
+    let Some(takes) = read_takes(heap, takes)? else {
         return Ok(None);
     };
     Ok(Some(Change {
         action,
-        touched: word_at(bytes, 4),
+        touched: number(touched),
         adds,
         takes,
     }))
@@ -280,23 +278,23 @@ fn read_change(heap: Global, bytes: &[u8]) -> Result<Option<Change>, AllocError>
 pub fn read_entry(heap: Global, bytes: &[u8]) -> Result<Option<Entry>, Refusal>
     ensures { UnlessOut result (entry_read result ≡ Ok (entry_in bytes.now)) }
 {
-    let Some(count) = unseal(bytes) else {
+    let Some(words) = unseal(bytes) else {
         return Ok(None);
     };
-    if count < 3 {
+    let Some(([place, writer, serial], words)) = words.split_first_chunk::<3>() else {
         return Ok(None);
-    }
-    let writer = word_at(bytes, 1);
+    };
+    let writer = number(writer);
     if writer >= WRITERS as u64 {
         return Ok(None);
     }
-    let Some(change) = read_change(heap, &bytes[24..8 * count])? else {
+    let Some(change) = read_change(heap, words)? else {
         return Ok(None);
     };
     Ok(Some(Entry {
-        place: word_at(bytes, 0),
+        place: number(place),
         writer: writer as u8,
-        serial: word_at(bytes, 2),
+        serial: number(serial),
         change,
     }))
 }

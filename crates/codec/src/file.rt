@@ -1,16 +1,14 @@
 // Files as bytes: reading them where they lie.
-ghost use Rattle.std.specs.Prelude.{◌≡◌, ◌+◌, ◌*◌, length, take, drop};
+ghost use Rattle.std.specs.Prelude.{◌≡◌, ◌^◌, ◌<◌, length, drop, map, is_some};
+ghost use Rattle.std.specs.List.{list_all};
 ghost use Rattle.std.specs.Option.{option_map};
-ghost use Rattle.codec.specs.Bounds.{every};
-ghost use Rattle.codec.specs.Words.{words_of};
-ghost use Rattle.codec.specs.Files.{row_fits, pairs, head_from, head_in, head_of, file_in, row_of, row_in};
+ghost use Rattle.std.specs.Iterator.{YieldsFirst, item_count};
+ghost use Rattle.codec.specs.Words.{numbers, words_of};
+ghost use Rattle.codec.specs.Files.{pairs, head_from, head_in, head_of, file_in, row_of, row_in, row_read, row_fitting, rows_left, rows_from};
 
 use crate::seal::unseal;
-use crate::words::word_at;
+use crate::words::{Word, number};
 use rows::row::{AMOUNT_LIMIT, Row};
-
-// The numbers of files and the keys of rows stay below 2^32.
-const KEY_LIMIT: u64 = 4294967296;
 
 // The most rows of a file.
 pub const MOST_ROWS: usize = 65536;
@@ -27,9 +25,7 @@ pub struct Head {
 fn head_from(n: usize, number: u64, began: u64, count: u64) -> Option<Head>
     ensures { result ≡ head_from n number began count }
 {
-    if number >= KEY_LIMIT {
-        return None;
-    }
+    let number = u32::try_from(number).ok()?;
     if count == 0 {
         return None;
     }
@@ -40,76 +36,101 @@ fn head_from(n: usize, number: u64, began: u64, count: u64) -> Option<Head>
         return None;
     }
     Some(Head {
-        number: number as u32,
+        number,
         began,
         count: count as usize,
     })
 }
 
-// The head that the first n numbers have.
-fn head_at(bytes: &[u8], n: usize) -> Option<Head>
-    requires { 8 * n + 8 ≡ length bytes.now }
-    ensures { result ≡ head_in (take n (words_of bytes.now)) }
+// The head that the numbers of a file begin with.
+fn head_in(words: &[Word]) -> Option<Head>
+    ensures { result ≡ head_in (numbers words.now) }
 {
-    if n < 3 {
-        return None;
-    }
-    head_from(n, word_at(bytes, 0), word_at(bytes, 1), word_at(bytes, 2))
+    let (head, _) = words.split_first_chunk::<3>()?;
+    head_from(
+        words.len(),
+        number(&head[0]),
+        number(&head[1]),
+        number(&head[2]),
+    )
 }
 
 pub(crate) fn row_of(key: u64, amount: u64) -> Option<Row>
     ensures { result ≡ row_of key amount }
 {
-    if key >= KEY_LIMIT {
-        return None;
-    }
+    let key = u32::try_from(key).ok()?;
     if amount >= AMOUNT_LIMIT {
         return None;
     }
-    Some(Row {
-        key: key as u32,
-        amount,
-    })
+    Some(Row { key, amount })
+}
+
+// The pairs of numbers behind a head.
+fn pairs_in(words: &[Word]) -> &[[Word; 2]]
+    ensures { map row_read result.now ≡ pairs (drop 3 (numbers words.now)) }
+{
+    words[words.len().min(3)..].as_chunks().0
+}
+
+// The row that two numbers are.
+fn row_from(pair: &[Word; 2]) -> Option<Row>
+    ensures { result ≡ row_fitting (row_read pair.now) }
+{
+    let [key, amount] = pair;
+    row_of(number(key), number(amount))
+}
+
+// The rows of a file one by one, where they lie.
+#[derive(Drop)]
+pub struct Rows<'a> {
+    left: &'a [[Word; 2]],
+}
+
+impl<'a> Rows<'a> {
+    // All rows of a file; of other bytes those before the first that is out of its bounds.
+    pub fn of(bytes: &'a [u8]) -> Rows<'a>
+        ensures rows { rows_left result ≡ rows_from bytes.now }
+        ensures bound { length (rows_left result) < 2 ^ 64 }
+    {
+        Rows {
+            left: pairs_in(bytes.as_chunks().0),
+        }
+    }
+}
+
+impl<'a> Iterator for Rows<'a> {
+    type Item = Row;
+
+    ghost next_gives = { YieldsFirst rows_left };
+
+    ghost remaining = { item_count rows_left };
+
+    fn next(&mut self) -> Option<Row> {
+        let (pair, left) = self.left.split_first()?;
+        let row = row_from(pair)?;
+        self.left = left;
+        Some(row)
+    }
 }
 
 // The i-th row of a file, where it lies; none where there is none or it is out of its bounds.
 pub fn row_at(bytes: &[u8], i: usize) -> Option<Row>
     ensures { result ≡ row_in (words_of bytes.now) i }
 {
-    let n = bytes.len() / 8;
-    if n < 5 {
-        return None;
-    }
-    if i > (n - 5) / 2 {
-        return None;
-    }
-    row_of(word_at(bytes, 3 + 2 * i), word_at(bytes, 4 + 2 * i))
+    row_from(pairs_in(bytes.as_chunks().0).get(i)?)
 }
 
-fn rows_fit(bytes: &[u8], count: usize) -> bool
-    requires { 8 * (3 + 2 * count) + 8 ≡ length bytes.now }
-    ensures { result ≡ every row_fits (pairs (drop 3 (take (3 + 2 * count) (words_of bytes.now)))) }
+fn rows_fit(pairs: &[[Word; 2]]) -> bool
+    ensures { result ≡ list_all (λ p. is_some (row_fitting (row_read p))) pairs.now }
 {
-    for i in 0..count {
-        let Some(_) = row_at(bytes, i) else {
-            return false;
-        };
-    }
-    true
+    pairs.iter().all(|pair| row_from(pair).is_some())
 }
 
 // The head of the file that the bytes are; none where they are no file.
 pub fn read_file(bytes: &[u8]) -> Option<Head>
     ensures { result ≡ option_map head_of (file_in bytes.now) }
 {
-    let Some(n) = unseal(bytes) else {
-        return None;
-    };
-    let Some(head) = head_at(bytes, n) else {
-        return None;
-    };
-    if !rows_fit(bytes, head.count) {
-        return None;
-    }
-    Some(head)
+    let words = unseal(bytes)?;
+    let head = head_in(words)?;
+    rows_fit(pairs_in(words)).then_some(head)
 }

@@ -1,33 +1,32 @@
 // Bytes as numbers of 64 bits, eight bytes to each, the least byte first. Places are counted in numbers.
-ghost use Rattle.std.specs.Prelude.{◌≡◌, ◌+◌, ◌*◌, ◌%◌, ◌^◌, ◌≤◌, length, take, sum, slice_index};
-ghost use Rattle.codec.specs.Words.{AreWords, word_from, bytes_le, put_at, words_of, bytes_of};
+ghost use Rattle.std.specs.Prelude.{◌≡◌, ◌+◌, ◌*◌, ◌%◌, ◌^◌, ◌≤◌, length, sum};
+ghost use Rattle.codec.specs.Words.{AreWords, numbers, le, word_from, bytes_le, put_at, bytes_of};
+
+// The eight bytes of a number, the least first.
+pub(crate) type Word = [u8; 8];
+
+// The number that eight bytes write.
+pub(crate) fn number(word: &Word) -> u64
+    ensures { result ≡ le word.now }
+{
+    u64::from_le_bytes(*word)
+}
 
 // The number that the eight bytes from a byte on write; none where they are cut short.
 pub fn word_from(bytes: &[u8], at: usize) -> Option<u64>
     ensures { result ≡ word_from at bytes.now }
 {
     let (word, _) = bytes.get(at..)?.split_first_chunk()?;
-    Some(u64::from_le_bytes(*word))
+    Some(number(word))
 }
 
-// The number at a place.
-pub(crate) fn word_at(bytes: &[u8], k: usize) -> u64
-    requires { 8 * k + 8 ≤ length bytes.now }
-    ensures { result ≡ slice_index (words_of bytes.now) k }
+// The sum of numbers, modulo 2^64.
+pub(crate) fn sum_words(words: &[Word]) -> u64
+    ensures { result ≡ sum (numbers words.now) % 2 ^ 64 }
 {
-    word_from(bytes, 8 * k).unwrap()
-}
-
-// The sum of the first n numbers, modulo 2^64.
-pub(crate) fn sum_words(bytes: &[u8], n: usize) -> u64
-    requires { 8 * n ≤ length bytes.now }
-    ensures { result ≡ sum (take n (words_of bytes.now)) % 2 ^ 64 }
-{
-    let mut total: u64 = 0;
-    for k in 0..n {
-        total = total.wrapping_add(word_at(bytes, k));
-    }
-    total
+    words
+        .iter()
+        .fold(0, |total: u64, word| total.wrapping_add(number(word)))
 }
 
 fn put_word(out: &mut [u8], k: usize, word: u64)
@@ -43,7 +42,7 @@ pub(crate) fn put_words(out: &mut [u8], k: usize, words: &[u64])
     ensures after { out.new ≡ put_at (8 * k) (bytes_of words.now) out.old }
     ensures fit { AreWords words.now }
 {
-    for i in 0..words.len() {
-        put_word(out, k + i, words[i]);
+    for (i, word) in words.iter().enumerate() {
+        put_word(out, k + i, *word);
     }
 }

@@ -10,7 +10,7 @@ use rows::span::Span;
 
 // The keys of no rows.
 pub(crate) const NO_KEYS: Span = Span {
-    from: 4294967295,
+    from: u32::MAX,
     to: 0,
 };
 
@@ -35,10 +35,8 @@ fn lent_keys(lent: &[u64]) -> Option<Span>
     ensures { result ≡ lent_keys lent.now }
 {
     let mut keys = NO_KEYS;
-    for i in 0..lent.len() / 2 {
-        let Some(row) = row_of(lent[2 * i], lent[1 + 2 * i]) else {
-            return None;
-        };
+    for &[key, amount] in lent.as_chunks::<2>().0 {
+        let row = row_of(key, amount)?;
         keys = widened(keys, row.key);
     }
     Some(keys)
@@ -58,9 +56,7 @@ pub fn write_file(number: u32, began: u64, lent: &[u64], out: &mut [u8]) -> Opti
     if count > MOST_ROWS {
         return None;
     }
-    let Some(keys) = lent_keys(lent) else {
-        return None;
-    };
+    let keys = lent_keys(lent)?;
     let length = 8 * (4 + 2 * count);
     if out.len() < length {
         return None;

@@ -1,19 +1,22 @@
-use Rattle.std.proofs.Common.{◌/◌, length, vec_items, arith}
-use Rattle.codec.specs.Words.{words_of}
-use Rattle.codec.proofs.WordLaws.{length_words}
+use Rattle.std.proofs.Common.{◌∙◌, vec_items, arith}
+use Rattle.std.proofs.lemmas.List.{length-map}
+use Rattle.codec.specs.Words.{le, numbers}
+use Rattle.codec.proofs.WordLaws.{get_or_numbers}
 use Rattle.codec.proofs.EntryReads.{take_more_in, take_too_large, takes_all_in}
 use Rattle.codec.proofs.entry.read_takes.Goals as goal
 
-pub returns-then-number-ge-KEY_LIMIT : goal.returns-then-number-ge-KEY_LIMIT
-returns-then-number-ge-KEY_LIMIT c =
-    let xs = c.args.bytes.now in
-    take_too_large (words_of xs) c.loop-i.i c.word_at-number.result (omega (arith, length_words (length xs / 8) xs)) c.word_at-number.ensures (vec_items c.loop-i.takes) (omega arith) c.loop-i.invariant
+pub returns-in_default : goal.returns-in_default
+returns-in_default c =
+    let ws = c.args.words.now in
+    let i = c.loop-word.word-index in
+    take_too_large (numbers ws) i c.number.result (omega (arith, length-map ws le)) (c.number.ensures ∙ get_or_numbers ws i) (vec_items c.loop-word.takes) (omega arith) c.loop-word.invariant
 
-pub loop-i-preserved : goal.loop-i-preserved
-loop-i-preserved c =
-    let xs = c.args.bytes.now in
-    take_more_in (words_of xs) c.loop-i.i c.word_at-number.result (omega (arith, length_words (length xs / 8) xs)) c.word_at-number.ensures (vec_items c.loop-i.takes) (vec_items c.push.new.self) (omega arith)
-    c.in_ok-push.ensures.items c.loop-i.invariant
+pub loop-word-preserved : goal.loop-word-preserved
+loop-word-preserved c =
+    let ws = c.args.words.now in
+    let i = c.loop-word.word-index in
+    take_more_in (numbers ws) i c.in-Ok.file (omega (arith, length-map ws le)) (c.in-Ok.ensures.1 ∙ c.number.ensures ∙ get_or_numbers ws i) (vec_items c.loop-word.takes) (vec_items c.push.new.self) (omega (arith, c.in-Ok.ensures.0, c.in-Ok.ensures.1))
+    c.in_ok-push.ensures.items c.loop-word.invariant
 
 pub returns : goal.returns
-returns c = let xs = c.args.bytes.now in takes_all_in (words_of xs) (vec_items c.loop-i.takes) c.loop-i.i (omega (arith, length_words (length xs / 8) xs)) c.loop-i.invariant
+returns c = let ws = c.args.words.now in takes_all_in (numbers ws) (vec_items c.loop-word.takes) c.loop-word.word-index (omega (arith, length-map ws le)) c.loop-word.invariant

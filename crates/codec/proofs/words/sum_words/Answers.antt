@@ -1,6 +1,10 @@
-use Rattle.std.proofs.Common.{refl, arith}
-use Rattle.codec.proofs.WordLaws.{sum_next}
+use Rattle.std.proofs.Common.{rules, ◌≡◌, ◌+◌, ◌%◌, ◌^◌, ◌∙◌}
+use Rattle.std.specs.Prelude.{fold}
+use Rattle.codec.specs.Words.{le}
+use Rattle.codec.proofs.WordLaws.{sum_folded}
 use Rattle.codec.proofs.words.sum_words.Goals as goal
 
-pub loop-k-preserved : goal.loop-k-preserved
-loop-k-preserved c = sum_next c.args.bytes.now c.loop-k.k c.loop-k.total c.word_at-total.result _ (omega arith) c.loop-k.invariant c.word_at-total.ensures refl
+pub returns : goal.returns
+returns c =
+    let folded : c.fold.result ≡ fold (λ t w. (t + le w) % 2 ^ 64) 0 c.args.words.now = search rules in
+    folded ∙ sum_folded c.args.words.now
