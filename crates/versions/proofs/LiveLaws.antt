@@ -25,7 +25,3 @@ kept_by_same p q h (x ∷ xs) = let e = h x in let ih = kept_by_same p q h xs in
 pub minus_by_set : (s : BTreeSet ℕ) (live takes : List ℕ) → ((n : ℕ) → in_set nat_cmp s n ≡ has takes n) → filter (λ n. not (in_set nat_cmp s n)) live ≡ minus live takes
 unfolding minus
 minus_by_set s live takes h = kept_by_same (λ n. not (in_set nat_cmp s n)) (λ n. not (has takes n)) (λ n. ap not (h n)) live
-
--- one element more behind what was there
-pub push_behind : {A : Type 0} (a m old new : List A) (x : A) → old ≡ a ++ m → new ≡ old ++ x ∷ [] → new ≡ a ++ (m ++ x ∷ [])
-push_behind a m old new x e f = f ∙ ap (λ l. l ++ x ∷ []) e ∙ append_assoc a m (x ∷ [])

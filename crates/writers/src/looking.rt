@@ -10,7 +10,7 @@ ghost use Rattle.writers.specs.Memory.{memory_of};
 use crate::Table;
 use crate::answer::Answer;
 use crate::desk::index_of;
-use crate::writer::Draft;
+use crate::writer::Writer;
 use codec::action::Action;
 use codec::entry::Change;
 use rows::refusal::Refusal;
@@ -71,31 +71,29 @@ fn conflict_since(
 
 impl Table {
     // Looks at the entries that came since the writer looked last. Where one is in conflict, or the version at which the writer began is no longer kept, it is told to begin anew and is idle.
-    pub fn look(&mut self, heap: Global, ends: &[u64], log: &[u8], writer: u64) -> Answer
+    pub fn look(
+        &mut self,
+        heap: Global,
+        ends: &[u64],
+        log: &[u8],
+        writer: u64,
+    ) -> Result<Answer, Refusal>
         ensures { (d fs : List ℕ) → Does (told_of result) (memory_of self.old d fs ends.now log.now) (memory_of self.new d fs ends.now log.now) (look_done writer (memory_of self.old d fs ends.now log.now)) }
     {
-        let Some(index) = index_of(writer) else {
-            return Answer::Refused(Refusal::NoSuchWriter(writer));
-        };
-        let Some(mut draft) = self.take_draft(index) else {
-            return Answer::Refused(Refusal::IdleWriter(writer));
+        let index = index_of(writer)?;
+        let Writer::Ready(draft) = &mut self.writers[index] else {
+            return Err(Refusal::IdleWriter(writer));
         };
         if !is_kept(&self.store, draft.began) {
-            return Answer::Again;
+            self.writers[index] = Writer::Idle;
+            return Ok(Answer::Again);
         }
-        match conflict_since(heap, &self.store, ends, log, draft.looked, &draft.change) {
-            Ok(found) => {
-                if found {
-                    return Answer::Again;
-                }
-                draft.looked = self.store.entries();
-                self.give_draft(index, draft);
-                Answer::Fine
-            }
-            Err(refusal) => {
-                self.give_draft(index, draft);
-                Answer::Refused(refusal)
-            }
+        let entry = &mut draft.entry;
+        if conflict_since(heap, &self.store, ends, log, entry.place, &entry.change)? {
+            self.writers[index] = Writer::Idle;
+            return Ok(Answer::Again);
         }
+        entry.place = self.store.entries();
+        Ok(Answer::Fine)
     }
 }
