@@ -43,29 +43,30 @@ fn conflict_since(
 ) -> Result<bool, Refusal>
     ensures { UnlessOut result (result ≡ conflict_among (change_of mine.now) (log_of store.now ends.now log.now) (store.now.entries - looked) looked) }
 {
-    let taken = set_of(heap, mine.takes.as_slice())?;
+    let taken = set_of(heap, &mine.takes)?;
     let span = span_of(mine.action);
-    let mut found = false;
-    'search: for place in looked..store.entries() {
-        let Some(entry) = store.entry(heap, ends, log, place)? else {
-            return Err(Refusal::DamagedEntry(place as u32));
-        };
-        for number in entry.change.takes.as_slice() {
-            if taken.contains(number) {
-                found = true;
-                break 'search;
+    // Entries and their files are gone through by loops that are left by a label.
+    let found = 'search: {
+        for place in looked..store.entries() {
+            let Some(entry) = store.entry(heap, ends, log, place)? else {
+                return Err(Refusal::DamagedEntry(place as u32));
+            };
+            for number in &entry.change.takes {
+                if taken.contains(number) {
+                    break 'search true;
+                }
+            }
+            let Some(keys) = span else {
+                continue;
+            };
+            for added in &entry.change.adds {
+                if keys.overlaps(added.keys) {
+                    break 'search true;
+                }
             }
         }
-        let Some(keys) = span else {
-            continue;
-        };
-        for added in entry.change.adds.as_slice() {
-            if keys.overlaps(added.keys) {
-                found = true;
-                break 'search;
-            }
-        }
-    }
+        false
+    };
     Ok(found)
 }
 
@@ -84,12 +85,10 @@ impl Table {
         let Writer::Ready(draft) = &mut self.writers[index] else {
             return Err(Refusal::IdleWriter(writer));
         };
-        if !is_kept(&self.store, draft.began) {
-            self.writers[index] = Writer::Idle;
-            return Ok(Answer::Again);
-        }
         let entry = &mut draft.entry;
-        if conflict_since(heap, &self.store, ends, log, entry.place, &entry.change)? {
+        if !is_kept(&self.store, draft.began)
+            || conflict_since(heap, &self.store, ends, log, entry.place, &entry.change)?
+        {
             self.writers[index] = Writer::Idle;
             return Ok(Answer::Again);
         }

@@ -1,14 +1,16 @@
-use Rattle.std.proofs.Common.{◌<◌, true, false, length, map, set, Some, None, Ok, Err, sym, ap, ◌∙◌, subst, refl, arith, rules}
+use Rattle.std.proofs.Common.{◌≡◌, ◌<◌, true, false, length, map, set, Some, None, Ok, Err, sym, ap, ◌∙◌, subst, refl, arith, rules}
 use Rattle.std.proofs.lemmas.Result.{err_from_is_err_and}
 use Rattle.rows.specs.declared.refusal.Refusal.TheVariants.{IdleWriter}
 use Rattle.writers.specs.Answers.{Does}
 use Rattle.writers.specs.Deeds.{look_done}
-use Rattle.writers.specs.Memory.{pending_of, held_by, Memory, memory_of}
+use Rattle.writers.specs.Memory.{pending_of, held_by, Memory, memory_of, with_pending}
 use Rattle.writers.specs.Model.{fine, again, refused}
+use Rattle.writers.specs.declared.Table.{Table}
 use Rattle.writers.specs.declared.writer.Writer.TheVariants.{Idle, Ready}
 use Rattle.writers.proofs.DeskLaws.{held_read, held_still, held_set, held_reset, memory_with, memory_same}
 use Rattle.writers.proofs.DeedLaws.{refused_does, look_nobody, look_idle, look_late, look_tried}
 use Rattle.writers.proofs.Table.look.Goals as goal
+use Rattle.writers.proofs.Table.look.Goals.{then-not-is_kept-via-then-not-is_kept, then-not-is_kept-via-else-not-is_kept+in_ok-conflict_since+then-branch}
 
 pub returns-in_err-index : goal.returns-in_err-index
 returns-in_err-index c d fs =
@@ -35,14 +37,23 @@ returns-then-not-is_kept c d fs =
     let w = c.args.writer in
     let es = c.args.ends.now in
     let l = c.args.log.now in
+    let m = memory_of t d fs es l in
     let i = c.in_ok-index.index in
     let draft = c.in-Ready.draft in
+    let p = pending_of draft in
     let there : w < 16 = omega arith in
     let within : i < length t.writers = search rules in
     let ready = held_read t.writers w i c.in_ok-index.ensures.0 c.index-self-index.result (Ready draft) within c.in-Ready.is in
-    let gone = held_reset t.writers w i c.in_ok-index.ensures.0 (Ready draft) Idle in
-    ap (λ (m : Memory). (again, m)) (memory_with t _ d fs es l refl w None gone)
-    ∙ look_late w (memory_of t d fs es l) there (pending_of draft) ready c.if-not-is_kept.ensures
+    let idle : Table → Memory = λ v. memory_of (record { store = v.store; writers = set v.writers i Idle }) d fs es l in
+    let gone : idle (record { store = t.store; writers = set t.writers i (Ready draft) }) ≡ with_pending m w None =
+    memory_with t _ d fs es l refl w None (held_reset t.writers w i c.in_ok-index.ensures.0 (Ready draft) Idle) in
+    elim c.then-not-is_kept.branch [
+      | then-not-is_kept-via-then-not-is_kept b ↦
+          ap (λ (x : Memory). (again, x)) (ap idle b.self-is ∙ gone) ∙ look_late w m there p ready b.if-not-is_kept.ensures
+      | then-not-is_kept-via-else-not-is_kept+in_ok-conflict_since+then-branch b ↦
+          let found = ap Ok (sym b.if-branch.true) ∙ b.in_ok-conflict_since.ensures in
+          ap (λ (x : Memory). (again, x)) (ap idle b.self-is ∙ gone) ∙ look_tried w m there p ready (Ok true) b.if-not-is_kept.ensures found
+    ]
 
 pub returns-in_err-conflict_since : goal.returns-in_err-conflict_since
 returns-in_err-conflict_since c d fs =
@@ -63,23 +74,6 @@ returns-in_err-conflict_since c d fs =
     rw (told.1, told.2)
     (subst (λ (x : Memory). Does (refused e) m x (look_done w m)) (sym (memory_same t _ d fs es l refl same))
     (refused_does e m (look_done w m) _ (look_tried w m there p ready (Err e) c.if-not-is_kept.ensures) c.in_err-conflict_since.ensures))
-
-pub returns-then-branch : goal.returns-then-branch
-returns-then-branch c d fs =
-    let t = c.args.self.now in
-    let w = c.args.writer in
-    let es = c.args.ends.now in
-    let l = c.args.log.now in
-    let m = memory_of t d fs es l in
-    let i = c.in_ok-index.index in
-    let draft = c.in-Ready.draft in
-    let p = pending_of draft in
-    let there : w < 16 = omega arith in
-    let within : i < length t.writers = search rules in
-    let ready = held_read t.writers w i c.in_ok-index.ensures.0 c.index-self-index.result (Ready draft) within c.in-Ready.is in
-    let gone = held_reset t.writers w i c.in_ok-index.ensures.0 (Ready draft) Idle in
-    let found = ap Ok (sym c.if-branch.true) ∙ c.in_ok-conflict_since.ensures in
-    ap (λ (x : Memory). (again, x)) (memory_with t _ d fs es l refl w None gone) ∙ look_tried w m there p ready (Ok true) c.if-not-is_kept.ensures found
 
 pub returns : goal.returns
 returns c d fs =
