@@ -1,5 +1,5 @@
 -- The writers of a table, one by one.
-use Rattle.std.proofs.Common.{◌≡◌, ℕ, ◌<◌, List, map, length, get_or, set, None, Err, Option, Result, sym, ap, ◌∙◌}
+use Rattle.std.proofs.Common.{arith, ◌≡◌, ℕ, ◌<◌, List, map, length, get_or, set, None, Err, Result, sym, ap, ◌∙◌}
 use Rattle.std.proofs.lemmas.List.{get_or-map, map-set, set-set, set-get_or}
 use Rattle.codec.specs.Entries.{LogEntry}
 use Rattle.store.specs.declared.Store.{Store}
@@ -10,36 +10,42 @@ use Rattle.store.specs.Putting.{files_of}
 use Rattle.writers.specs.declared.Table.{Table}
 use Rattle.writers.specs.declared.writer.Writer.{Writer}
 use Rattle.writers.specs.Deeds.{entry_for}
-use Rattle.writers.specs.Memory.{Pending, held_by, Memory, memory_of, with_pending}
+use Rattle.writers.specs.Memory.{Pending, held_by, memory_of, with_pending}
 
--- the writers of a table, of which one is given another value
-module _ (ws : List Writer) (w i : ℕ) (at : i ≡ w) where
-  pub held_set : (x : Writer) → map held_by (set ws i x) ≡ set (map held_by ws) w (held_by x)
-  held_set x = map-set held_by ws i x ∙ ap (λ k. set (map held_by ws) k (held_by x)) at
+-- a table of which one writer is given another value
+module _ (t : Table) (w i : ℕ) (at : i ≡ w) where
+  held_set : (x : Writer) → map held_by (set t.writers i x) ≡ set (map held_by t.writers) w (held_by x)
+  held_set x = map-set held_by t.writers i x ∙ ap (λ k. set (map held_by t.writers) k (held_by x)) at
 
-  pub held_reset : (x y : Writer) → map held_by (set (set ws i x) i y) ≡ set (map held_by ws) w (held_by y)
-  held_reset x y = ap (map held_by) (set-set ws i x y) ∙ held_set y
+  pub held_reset : (x y : Writer) → map held_by (set (set t.writers i x) i y) ≡ set (map held_by t.writers) w (held_by y)
+  held_reset x y = ap (map held_by) (set-set t.writers i x y) ∙ held_set y
 
-  -- what the writer holds, as the code reads it
-  module _ (d x : Writer) (within : i < length ws) (read : get_or ws i d ≡ x) where
-    pub held_read : held_by x ≡ get_or (map held_by ws) w None
-    held_read = ap held_by (sym read) ∙ sym (get_or-map held_by ws i d None within) ∙ ap (λ k. get_or (map held_by ws) k None) at
+  module _ (d fs es l : List ℕ) where
+    pub memory_set : (x : Writer) → memory_of (record { store = t.store; writers = set t.writers i x }) d fs es l ≡ with_pending (memory_of t d fs es l) w (held_by x)
+    memory_set x j = record { horizon = t.store.horizon; files = files_of t.store d fs; log = log_of t.store es l; writers = held_set x j }
 
-    pub held_still : (y : Writer) → held_by y ≡ held_by x → map held_by (set ws i y) ≡ map held_by ws
-    held_still y e = held_set y ∙ ap (set (map held_by ws) w) (e ∙ held_read) ∙ set-get_or (map held_by ws) w None
+    pub memory_reset : (x y : Writer) → memory_of (record { store = t.store; writers = set (set t.writers i x) i y }) d fs es l ≡ with_pending (memory_of t d fs es l) w (held_by y)
+    memory_reset x y j = record { horizon = t.store.horizon; files = files_of t.store d fs; log = log_of t.store es l; writers = held_reset x y j }
 
--- memory of a table in which one writer holds something else
-module _ (t u : Table) (d fs es l : List ℕ) (same : u.store ≡ t.store) where
-  pub memory_with : (w : ℕ) (p : Option Pending) → map held_by u.writers ≡ set (map held_by t.writers) w p → memory_of u d fs es l ≡ with_pending (memory_of t d fs es l) w p
-  memory_with w p e i = record { horizon = (same i).horizon; files = files_of (same i) d fs; log = log_of (same i) es l; writers = e i }
+-- that the code read what a writer is; x is what it reads where there is none
+pub record Found (t : Table) (w i : ℕ) (x held : Writer) : Type 0 where
+  pub at : i ≡ w
+  pub below : i < 16
+  pub within : i < length t.writers
+  pub read : get_or t.writers i x ≡ held
 
-  pub memory_same : map held_by u.writers ≡ map held_by t.writers → memory_of u d fs es l ≡ memory_of t d fs es l
-  memory_same e i = record { horizon = (same i).horizon; files = files_of (same i) d fs; log = log_of (same i) es l; writers = e i }
+module _ {t : Table} {w i : ℕ} {x held : Writer} (f : Found t w i x held) where
+  pub found_there : w < 16
+  found_there = omega (arith, f.at, f.below)
 
--- memory by its parts
-pub memory_by : (u : Table) (d fs es l : List ℕ) (m : Memory) → u.store.horizon ≡ m.horizon → files_of u.store d fs ≡ m.files → log_of u.store es l ≡ m.log → map held_by u.writers ≡ m.writers
-    → memory_of u d fs es l ≡ m
-memory_by u d fs es l m a b c e i = record { horizon = a i; files = b i; log = c i; writers = e i }
+  pub found_held : held_by held ≡ get_or (map held_by t.writers) w None
+  found_held = ap held_by (sym f.read) ∙ sym (get_or-map held_by t.writers i x None f.within) ∙ ap (λ k. get_or (map held_by t.writers) k None) f.at
+
+  pub found_still : (y : Writer) → held_by y ≡ held_by held → map held_by (set t.writers i y) ≡ map held_by t.writers
+  found_still y e = held_set t w i f.at y ∙ ap (set (map held_by t.writers) w) (e ∙ found_held) ∙ set-get_or (map held_by t.writers) w None
+
+  pub memory_still : (d fs es l : List ℕ) (y : Writer) → held_by y ≡ held_by held → memory_of (record { store = t.store; writers = set t.writers i y }) d fs es l ≡ memory_of t d fs es l
+  memory_still d fs es l y e j = record { horizon = t.store.horizon; files = files_of t.store d fs; log = log_of t.store es l; writers = found_still y e j }
 
 -- a store after a put of an entry has the files that it had
 pub files_same : (s t : Store) (d fs : List ℕ) → t.next ≡ s.next → t.most_rows ≡ s.most_rows → files_of t d fs ≡ files_of s d fs

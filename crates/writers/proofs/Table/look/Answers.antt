@@ -1,4 +1,4 @@
-use Rattle.std.proofs.Common.{◌≡◌, ◌<◌, true, false, length, map, set, Some, None, Ok, Err, sym, ap, ◌∙◌, subst, refl, arith, rules}
+use Rattle.std.proofs.Common.{◌≡◌, true, false, set, Some, Ok, Err, None, sym, ap, ◌∙◌, subst, refl, rules}
 use Rattle.std.proofs.lemmas.Result.{err_from_is_err_and}
 use Rattle.rows.specs.declared.refusal.Refusal.TheVariants.{IdleWriter}
 use Rattle.writers.specs.Answers.{Does}
@@ -7,7 +7,7 @@ use Rattle.writers.specs.Memory.{pending_of, held_by, Memory, memory_of, with_pe
 use Rattle.writers.specs.Model.{fine, again, refused}
 use Rattle.writers.specs.declared.Table.{Table}
 use Rattle.writers.specs.declared.writer.Writer.TheVariants.{Idle, Ready}
-use Rattle.writers.proofs.DeskLaws.{held_read, held_still, held_set, held_reset, memory_with, memory_same}
+use Rattle.writers.proofs.DeskLaws.{Found, found_there, found_held, memory_still, memory_set, memory_reset}
 use Rattle.writers.proofs.DeedLaws.{refused_does, look_nobody, look_idle, look_late, look_tried}
 use Rattle.writers.proofs.Table.look.Goals as goal
 use Rattle.writers.proofs.Table.look.Goals.{then-not-is_kept-via-then-not-is_kept, then-not-is_kept-via-else-not-is_kept+in_ok-conflict_since+then-branch}
@@ -23,13 +23,9 @@ returns-in_default c d fs =
     let w = c.args.writer in
     let es = c.args.ends.now in
     let l = c.args.log.now in
-    let i = c.in_ok-index.index in
     let x = c.index-self-index.result in
-    let there : w < 16 = omega arith in
-    let within : i < length t.writers = search rules in
-    let none = held_read t.writers w i c.in_ok-index.ensures.0 x Idle within c.in_default.is in
-    let same = held_still t.writers w i c.in_ok-index.ensures.0 x Idle within c.in_default.is _ (ap held_by c.in_default.is) in
-    ap (λ (m : Memory). (refused (IdleWriter w), m)) (memory_same t _ d fs es l refl same) ∙ look_idle w (memory_of t d fs es l) there none
+    let f : Found t w c.in_ok-index.index c.index-self-index.result Idle = record { at = c.in_ok-index.ensures.0; below = c.in_ok-index.ensures.1; within = search rules; read = c.in_default.is } in
+    ap (λ (m : Memory). (refused (IdleWriter w), m)) (memory_still f d fs es l _ (ap held_by c.in_default.is)) ∙ look_idle w (memory_of t d fs es l) (found_there f) (found_held f)
 
 pub returns-then-not-is_kept : goal.returns-then-not-is_kept
 returns-then-not-is_kept c d fs =
@@ -38,21 +34,18 @@ returns-then-not-is_kept c d fs =
     let es = c.args.ends.now in
     let l = c.args.log.now in
     let m = memory_of t d fs es l in
-    let i = c.in_ok-index.index in
     let draft = c.in-Ready.draft in
     let p = pending_of draft in
-    let there : w < 16 = omega arith in
-    let within : i < length t.writers = search rules in
-    let ready = held_read t.writers w i c.in_ok-index.ensures.0 c.index-self-index.result (Ready draft) within c.in-Ready.is in
+    let f : Found t w c.in_ok-index.index c.index-self-index.result (Ready draft) = record { at = c.in_ok-index.ensures.0; below = c.in_ok-index.ensures.1; within = search rules; read = c.in-Ready.is } in
+    let i = c.in_ok-index.index in
     let idle : Table → Memory = λ v. memory_of (record { store = v.store; writers = set v.writers i Idle }) d fs es l in
-    let gone : idle (record { store = t.store; writers = set t.writers i (Ready draft) }) ≡ with_pending m w None =
-    memory_with t _ d fs es l refl w None (held_reset t.writers w i c.in_ok-index.ensures.0 (Ready draft) Idle) in
+    let gone : idle (record { store = t.store; writers = set t.writers i (Ready draft) }) ≡ with_pending m w None = memory_reset t w i f.at d fs es l (Ready draft) Idle in
     elim c.then-not-is_kept.branch [
       | then-not-is_kept-via-then-not-is_kept b ↦
-          ap (λ (x : Memory). (again, x)) (ap idle b.self-is ∙ gone) ∙ look_late w m there p ready b.if-not-is_kept.ensures
+          ap (λ (x : Memory). (again, x)) (ap idle b.self-is ∙ gone) ∙ look_late w m (found_there f) p (found_held f) b.if-not-is_kept.ensures
       | then-not-is_kept-via-else-not-is_kept+in_ok-conflict_since+then-branch b ↦
           let found = ap Ok (sym b.if-branch.true) ∙ b.in_ok-conflict_since.ensures in
-          ap (λ (x : Memory). (again, x)) (ap idle b.self-is ∙ gone) ∙ look_tried w m there p ready (Ok true) b.if-not-is_kept.ensures found
+          ap (λ (x : Memory). (again, x)) (ap idle b.self-is ∙ gone) ∙ look_tried w m (found_there f) p (found_held f) (Ok true) b.if-not-is_kept.ensures found
     ]
 
 pub returns-in_err-conflict_since : goal.returns-in_err-conflict_since
@@ -62,18 +55,14 @@ returns-in_err-conflict_since c d fs =
     let es = c.args.ends.now in
     let l = c.args.log.now in
     let m = memory_of t d fs es l in
-    let i = c.in_ok-index.index in
     let draft = c.in-Ready.draft in
     let p = pending_of draft in
-    let there : w < 16 = omega arith in
-    let within : i < length t.writers = search rules in
-    let ready = held_read t.writers w i c.in_ok-index.ensures.0 c.index-self-index.result (Ready draft) within c.in-Ready.is in
-    let same = held_still t.writers w i c.in_ok-index.ensures.0 c.index-self-index.result (Ready draft) within c.in-Ready.is (Ready draft) refl in
+    let f : Found t w c.in_ok-index.index c.index-self-index.result (Ready draft) = record { at = c.in_ok-index.ensures.0; below = c.in_ok-index.ensures.1; within = search rules; read = c.in-Ready.is } in
     let told = err_from_is_err_and c.from_residual-in_err-conflict_since.result c.from_residual-in_err-conflict_since.ensures.1 in
     let e = c.in_err-conflict_since.field-0.0 in
     rw (told.1, told.2)
-    (subst (λ (x : Memory). Does (refused e) m x (look_done w m)) (sym (memory_same t _ d fs es l refl same))
-    (refused_does e m (look_done w m) _ (look_tried w m there p ready (Err e) c.if-not-is_kept.ensures) c.in_err-conflict_since.ensures))
+    (subst (λ (x : Memory). Does (refused e) m x (look_done w m)) (sym (memory_still f d fs es l (Ready draft) refl))
+    (refused_does e m (look_done w m) _ (look_tried w m (found_there f) p (found_held f) (Err e) c.if-not-is_kept.ensures) c.in_err-conflict_since.ensures))
 
 pub returns : goal.returns
 returns c d fs =
@@ -82,13 +71,10 @@ returns c d fs =
     let es = c.args.ends.now in
     let l = c.args.log.now in
     let m = memory_of t d fs es l in
-    let i = c.in_ok-index.index in
     let draft = c.in-Ready.draft in
     let p = pending_of draft in
-    let there : w < 16 = omega arith in
-    let within : i < length t.writers = search rules in
-    let ready = held_read t.writers w i c.in_ok-index.ensures.0 c.index-self-index.result (Ready draft) within c.in-Ready.is in
-    let given = held_set t.writers w i c.in_ok-index.ensures.0 (Ready (record draft { entry = record draft.entry { place = c.entries-entry.result } })) in
-    let looked = ap (λ n. set (map held_by t.writers) w (Some (record { began = p.began; looked = n; serial = p.serial; change = p.change }))) c.entries-entry.ensures in
+    let f : Found t w c.in_ok-index.index c.index-self-index.result (Ready draft) = record { at = c.in_ok-index.ensures.0; below = c.in_ok-index.ensures.1; within = search rules; read = c.in-Ready.is } in
+    let mine = Ready (record draft { entry = record draft.entry { place = c.entries-entry.result } }) in
+    let looked = ap (λ n. with_pending m w (Some (record { began = p.began; looked = n; serial = p.serial; change = p.change }))) c.entries-entry.ensures in
     let found = ap Ok (sym c.if-branch.false) ∙ c.in_ok-conflict_since.ensures in
-    ap (λ (x : Memory). (fine, x)) (memory_with t _ d fs es l refl w _ (given ∙ looked)) ∙ look_tried w m there p ready (Ok false) c.if-not-is_kept.ensures found
+    ap (λ (x : Memory). (fine, x)) (memory_set t w c.in_ok-index.index f.at d fs es l mine ∙ looked) ∙ look_tried w m (found_there f) p (found_held f) (Ok false) c.if-not-is_kept.ensures found

@@ -1,9 +1,9 @@
-use Rattle.std.proofs.Common.{◌<◌, ap, ◌∙◌, refl, arith}
+use Rattle.std.proofs.Common.{◌<◌, ap, ◌∙◌, arith}
 use Rattle.std.proofs.lemmas.Result.{err_from_is_err_and}
 use Rattle.writers.specs.Memory.{Memory, memory_of}
 use Rattle.writers.specs.Model.{fine}
 use Rattle.writers.specs.declared.writer.Writer.TheVariants.{Idle}
-use Rattle.writers.proofs.DeskLaws.{memory_with, held_set}
+use Rattle.writers.proofs.DeskLaws.{memory_set}
 use Rattle.writers.proofs.DeedLaws.{stop_refused, stop_fine}
 use Rattle.writers.proofs.Table.stop.Goals as goal
 
@@ -16,6 +16,5 @@ pub returns : goal.returns
 returns c d fs es l =
     let t = c.args.self.now in
     let w = c.args.writer in
-    let i = c.in_ok-index.index in
     let there : w < 16 = omega arith in
-    ap (λ (m : Memory). (fine, m)) (memory_with t _ d fs es l refl w _ (held_set t.writers w i c.in_ok-index.ensures.0 Idle)) ∙ stop_fine w (memory_of t d fs es l) there
+    ap (λ (m : Memory). (fine, m)) (memory_set t w c.in_ok-index.index c.in_ok-index.ensures.0 d fs es l Idle) ∙ stop_fine w (memory_of t d fs es l) there
