@@ -1,10 +1,9 @@
 -- Numbers as a set, and the files after a change, step by step.
-use Rattle.std.proofs.Common.{◌≡◌, ℕ, Bool, not, List, [], ◌∷◌, ◌++◌, filter, refl, ap, ◌∙◌}
+use Rattle.std.proofs.Common.{◌≡◌, ℕ, Bool, not, List, [], ◌∷◌, filter, refl, ap, ◌∙◌}
 use Rattle.std.specs.BTreeSet.{IsOrdered, IsFromIterResult, contains as in_set}
 use Rattle.std.specs.Set.{is_member}
 use Rattle.std.specs.Cmp.{unsigned_tied}
 use Rattle.std.specs.BTreeSet.{BTreeSet}
-use Rattle.std.proofs.lemmas.List.{append_assoc}
 use Rattle.versions.specs.Alive.{has, minus}
 use Rattle.std.specs.Ordering.{nat_cmp, eq_by_cmp}
 

@@ -9,17 +9,10 @@ use Rattle.codec.specs.Rewrites.{rows_in}
 use Rattle.store.specs.Putting.{files_of}
 use Rattle.versions.specs.Gathering.{behind, gathered}
 use Rattle.versions.specs.Previews.{preview_of, preview_found, previews}
-use Rattle.versions.proofs.GatherLaws.{gather_start, gather_go, gather_stop, gather_end}
+use Rattle.versions.proofs.GatherLaws.{gather_go, gather_stop, gather_end}
 use Rattle.versions.proofs.PreviewLaws.{preview_yes, preview_no}
 use Rattle.versions.proofs.preview.files_in_span.Goals as goal
 use Rattle.versions.proofs.preview.files_in_span.Goals.{then-inside-gt0+in_ok-push, else-inside-gt0}
-
-pub loop-number-init : goal.loop-number-init
-unfolding previews
-loop-number-init c =
-    let s = files_of c.args.store.now c.args.directory.now c.args.files.now in
-    let find = preview_found s c.args.span in
-    ap (λ l. behind l (gathered find DamagedFile c.args.numbers.now)) c.new-found.ensures.items ∙ gather_start find DamagedFile c.args.numbers.now
 
 pub returns-in_err-held : goal.returns-in_err-held
 unfolding previews

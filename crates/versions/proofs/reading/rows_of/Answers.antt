@@ -7,14 +7,8 @@ use Rattle.codec.specs.Rewrites.{rows_in}
 use Rattle.store.specs.Putting.{files_of}
 use Rattle.versions.specs.FilesHeld.{stored_rows, rows_found, rows_held}
 use Rattle.versions.specs.Gathering.{behind, gathered}
-use Rattle.versions.proofs.GatherLaws.{gather_start, gather_go, gather_stop, gather_end}
+use Rattle.versions.proofs.GatherLaws.{gather_go, gather_stop, gather_end}
 use Rattle.versions.proofs.reading.rows_of.Goals as goal
-
-pub loop-number-init : goal.loop-number-init
-unfolding rows_held
-loop-number-init c =
-    let s = files_of c.args.store.now c.args.directory.now c.args.files.now in
-    ap (λ l. behind l (gathered (rows_found s) DamagedFile c.args.numbers.now)) c.new-rows.ensures.items ∙ gather_start (rows_found s) DamagedFile c.args.numbers.now
 
 pub returns-in_err-held : goal.returns-in_err-held
 unfolding rows_held

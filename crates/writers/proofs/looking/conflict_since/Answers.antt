@@ -41,12 +41,6 @@ loop-place-preserved-in_default-span c =
     let clear = clear_of_takes mine x.change taken (λ n. c.in_ok-taken.ensures.1 n ∙ ap (λ ns. has ns n) c.deref.ensures.value) (ap (any (λ n. in_set nat_cmp taken n)) (sym c.deref-number-items.ensures.value) ∙ none) (sym c.loop-place.invariant.0 ∙ c.in_default-span.is) in
     (c.loop-place.invariant.0, among_on mine l c.entries-place-end.result k _ c.loop-place.invariant.1 (omega arith) x (under_some c.in_ok-entry.field-0 (entry_under l k) c.in_ok-entry.ensures c.in-Some.entry c.in-Some.is) clear)
 
-pub loop-added-preserved : goal.loop-added-preserved
-loop-added-preserved c =
-    let xs = c.deref-added-items.result.now in
-    let i = c.loop-added.added-index in
-    (any_on (λ (a : Added). overlap c.in-Some-span.keys a.keys) xs i c.loop-added.invariant _ (omega arith) (sym c.if-overlaps.ensures))
-
 pub loop-place-preserved : goal.loop-place-preserved
 loop-place-preserved c =
     let mine = change_of c.args.mine.now in
