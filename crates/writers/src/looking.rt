@@ -45,7 +45,7 @@ fn conflict_since(
 {
     let taken = set_of(heap, &mine.takes)?;
     let span = span_of(mine.action);
-    // Entries and their files are gone through by loops that are left by a label.
+    // The loops over entries and their files are left by a label.
     let found = 'search: {
         for place in looked..store.entries() {
             let Some(entry) = store.entry(heap, ends, log, place)? else {

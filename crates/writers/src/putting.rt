@@ -11,6 +11,7 @@ use crate::writer::Writer;
 use rows::refusal::{LOG_LIMIT, Refusal};
 use store::unput::Unput;
 
+// Why an entry is not put, as a deed tells it.
 fn unput_refusal(unput: Unput) -> Refusal
     ensures { result ≡ unput_refusal unput }
 {

@@ -9,7 +9,7 @@ pub struct Draft {
     pub entry: Entry,
 }
 
-// An enum of its own, since a writer is one of cases.
+// An enum with its cases and no Option, as orders and answers are.
 #[derive(Drop)]
 pub enum Writer {
     Idle,
