@@ -1,14 +1,15 @@
 -- The entries of a history, step by step.
-use Rattle.std.proofs.Common.{◌≡◌, ℕ, ◌+◌, ◌<◌, ◌≤◌, Bool, true, false, cond, eqb, List, [], ◌∷◌, map, length, get_or, take, drop, Some, None, Ok, Option, Result, sym, ap, ◌∙◌, arith}
+use Rattle.std.proofs.Common.{◌≡◌, ℕ, ◌+◌, ◌<◌, ◌≤◌, Bool, cond, ◌&&◌, eqb, List, [], ◌∷◌, map, length, get_or, count_by, drop, Some, None, Ok, Option, Result, sym, refl, ap, ◌∙◌, arith}
 use Rattle.std.specs.Option.{option_map}
 use Rattle.rows.specs.declared.refusal.Refusal.{Refusal}
 use Rattle.std.proofs.lemmas.List.{get_or-map, length-map, drop_more, drop_all}
-use Rattle.std.proofs.lemmas.List.Sums.{count_by_more_yes, count_by_more_no}
-use Rattle.std.proofs.lemmas.Bool.{eq-eqb, ne_eqb}
+use Rattle.std.proofs.lemmas.List.Sums.{sum_by-cons}
 use Rattle.codec.specs.declared.entry.Entry.{Entry}
 use Rattle.codec.specs.Entries.{TableChange, LogEntry, entry_of}
 use Rattle.versions.specs.Alive.{after, alive}
-use Rattle.versions.specs.Histories.{changes, puts_by, first_place}
+use Rattle.versions.specs.Histories.{changes, puts_by, is_put, first_place}
+use Rattle.std.specs.List.{position, position_from}
+use Rattle.std.proofs.lemmas.Iterator.Adapters.{position_from-zero}
 use Rattle.versions.specs.VersionLaws.{Stands}
 
 -- the entry that the code reads is the one that is meant
@@ -52,28 +53,24 @@ pub alive_end : (cs : List TableChange) (i : ℕ) (live all : List ℕ) → leng
 unfolding alive
 alive_end cs i live all h inv = ap (λ l. alive l live) (sym (drop_all i cs h)) ∙ inv
 
--- one entry more that is counted, or not
-module _ (w : ℕ) (es : List LogEntry) (i : ℕ) (e : LogEntry) (s : Stands es i e) where
-  pub puts_more_yes : e.writer ≡ w → puts_by w (take (i + 1) es) ≡ puts_by w (take i es) + 1
-  unfolding puts_by
-  puts_more_yes h = count_by_more_yes (λ x. eqb x.writer w) es i e s.0 (ap (λ (x : LogEntry). eqb x.writer w) s.1 ∙ eq-eqb e.writer w h)
+-- entries counted and placed as the code holds them
+pub puts_counted : (w : ℕ) (xs : List Entry) → count_by (λ e. eqb e.writer w) xs ≡ puts_by w (map entry_of xs)
+unfolding puts_by
+puts_counted w [] = refl
+puts_counted w (x ∷ xs) =
+    let ih = puts_counted w xs in
+    let read = sum_by-cons (λ (e : Entry). cond (eqb e.writer w) 1 0) x xs in
+    let meant = sum_by-cons (λ (e : LogEntry). cond (eqb e.writer w) 1 0) (entry_of x) (map entry_of xs) in
+    cc
 
-  pub puts_more_no : (e.writer ≡ w → ⊥) → puts_by w (take (i + 1) es) ≡ puts_by w (take i es)
-  unfolding puts_by
-  puts_more_no h = count_by_more_no (λ x. eqb x.writer w) es i e s.0 (ap (λ (x : LogEntry). eqb x.writer w) s.1 ∙ ne_eqb e.writer w h)
+module _ (w serial : ℕ) where
+  abbrev pub held_put : Entry → Bool
+  held_put e = eqb e.writer w && eqb e.serial serial
 
--- the first that passes, of those that are left
-module _ {A : Type 0} (p : A → Bool) (xs : List A) (i : ℕ) (all : Option ℕ) (inv : first_place p i (drop i xs) ≡ all) where
-  first_at : (x : A) → Stands xs i x → cond (p x) (Some i) (first_place p (i + 1) (drop (i + 1) xs)) ≡ all
+  placed_from : (k : ℕ) (xs : List Entry) → position_from held_put k xs ≡ first_place (is_put w serial) k (map entry_of xs)
   unfolding first_place
-  first_at x s = ap (λ y. cond (p y) (Some i) (first_place p (i + 1) (drop (i + 1) xs))) (sym s.1) ∙ ap (first_place p i) (sym (drop_more xs i x s.0)) ∙ inv
+  placed_from k [] = refl
+  placed_from k (x ∷ xs) = ap (λ o. cond (held_put x) (Some k) o) (placed_from (k + 1) xs)
 
-  pub first_here : (x : A) → Stands xs i x → p x ≡ true → Some i ≡ all
-  first_here x s t = ap (λ b. cond b (Some i) (first_place p (i + 1) (drop (i + 1) xs))) (sym t) ∙ first_at x s
-
-  pub first_on : (x : A) → Stands xs i x → p x ≡ false → first_place p (i + 1) (drop (i + 1) xs) ≡ all
-  first_on x s t = ap (λ b. cond b (Some i) (first_place p (i + 1) (drop (i + 1) xs))) (sym t) ∙ first_at x s
-
-  pub first_none : length xs ≤ i → None ≡ all
-  unfolding first_place
-  first_none h = ap (first_place p i) (sym (drop_all i xs h)) ∙ inv
+  pub put_placed : (xs : List Entry) → position held_put xs ≡ first_place (is_put w serial) 0 (map entry_of xs)
+  put_placed xs = position_from-zero held_put xs ∙ placed_from 0 xs

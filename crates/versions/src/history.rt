@@ -42,7 +42,7 @@ impl History {
         ensures { UnlessOut result (items_of result ≡ Ok (live_of (entries_of self.now))) }
     {
         let mut live = Vec::new(heap);
-        for entry in self.entries.as_slice() {
+        for entry in &self.entries {
             apply_change(&mut live, heap, &entry.change)?;
         }
         Ok(live)
@@ -52,24 +52,19 @@ impl History {
     pub fn written_by(&self, writer: u8) -> u64
         ensures { result ≡ puts_by writer (entries_of self.now) }
     {
-        let mut count = 0;
-        for entry in self.entries.as_slice() {
-            if entry.writer == writer {
-                count += 1;
-            }
-        }
-        count
+        self.entries
+            .iter()
+            .filter(|entry| entry.writer == writer)
+            .count() as u64
     }
 
     // The place of the entry that a writer put behind so many of its own, if it is there: how a program finds out whether its put was done.
     pub fn find_put(&self, writer: u8, serial: u64) -> Option<u64>
         ensures { result ≡ first_place (is_put writer serial) 0 (entries_of self.now) }
     {
-        for (place, entry) in self.entries.as_slice().iter().enumerate() {
-            if entry.writer == writer && entry.serial == serial {
-                return Some(place as u64);
-            }
-        }
-        None
+        self.entries
+            .iter()
+            .position(|entry| entry.writer == writer && entry.serial == serial)
+            .map(|place| place as u64)
     }
 }

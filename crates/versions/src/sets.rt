@@ -13,9 +13,5 @@ use std::collections::BTreeSet;
 pub fn set_of(heap: Global, numbers: &[u32]) -> Result<BTreeSet<u32>, Refusal>
     ensures { MatchResult result (λ s. IsOrdered nat_cmp s × ((n : ℕ) → in_set nat_cmp s n ≡ has numbers.now n)) (λ e. e ≡ OutOfMemory) }
 {
-    let mut set = BTreeSet::new(heap);
-    for number in numbers {
-        set.insert(*number)?;
-    }
-    Ok(set)
+    Ok(numbers.iter().copied().collect(heap)?)
 }

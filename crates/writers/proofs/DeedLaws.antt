@@ -3,7 +3,7 @@ use Rattle.std.proofs.Common.{◌≡◌, ℕ, ◌-◌, ◌<◌, ◌≤◌, Bool,
 use Rattle.rows.specs.Refusals.{number_of, UnlessOut}
 use Rattle.rows.specs.declared.refusal.Refusal.{Refusal}
 use Rattle.rows.specs.declared.refusal.Refusal.TheVariants.{NoSuchWriter, IdleWriter, LogFull}
-use Rattle.std.proofs.lemmas.Bool.{cond-true, cond-false, le-leb, lt-leb, eq-eqb, ne_eqb}
+use Rattle.std.proofs.lemmas.Bool.{le-ltb, lt-ltb, cond-true, cond-false, le-leb, lt-leb, eq-eqb, ne_eqb}
 use Rattle.rows.specs.Checks.{some_else}
 use Rattle.store.specs.declared.unput.Unput.{Unput}
 use Rattle.store.specs.Log.{Log, put_entry}
@@ -34,22 +34,22 @@ module _ (v : ℕ) (m : Memory) where
 
 -- no such writer, and a writer that stops
 module _ (w : ℕ) (m : Memory) where
-  pub writer_none : (done : Told × Memory) → false ≡ ltb w 16 → ◌≡◌ {A = Told × Memory} (refused (NoSuchWriter w), m) (if_writer m w done)
-  writer_none done e = ap (λ b. cond b done (refused (NoSuchWriter w), m)) e
+  pub writer_none : (done : Told × Memory) → 16 ≤ w → ◌≡◌ {A = Told × Memory} (refused (NoSuchWriter w), m) (if_writer m w done)
+  writer_none done h = sym (cond-false (ltb w 16) done (refused (NoSuchWriter w), m) (le-ltb w 16 h))
 
-  pub writer_some : (done : Told × Memory) → true ≡ ltb w 16 → done ≡ if_writer m w done
-  writer_some done e = ap (λ b. cond b done (refused (NoSuchWriter w), m)) e
+  pub writer_some : (done : Told × Memory) → w < 16 → done ≡ if_writer m w done
+  writer_some done h = sym (cond-true (ltb w 16) done (refused (NoSuchWriter w), m) (lt-ltb w 16 h))
 
-  pub stop_refused : false ≡ ltb w 16 → ◌≡◌ {A = Told × Memory} (refused (NoSuchWriter w), m) (stop_done w m)
+  pub stop_refused : 16 ≤ w → ◌≡◌ {A = Told × Memory} (refused (NoSuchWriter w), m) (stop_done w m)
   unfolding stop_done
-  stop_refused e = writer_none (fine, with_pending m w None) e
+  stop_refused h = writer_none (fine, with_pending m w None) h
 
-  pub stop_fine : true ≡ ltb w 16 → ◌≡◌ {A = Told × Memory} (fine, with_pending m w None) (stop_done w m)
+  pub stop_fine : w < 16 → ◌≡◌ {A = Told × Memory} (fine, with_pending m w None) (stop_done w m)
   unfolding stop_done
-  stop_fine e = writer_some (fine, with_pending m w None) e
+  stop_fine h = writer_some (fine, with_pending m w None) h
 
 -- a writer that is idle, or ready
-module _ (w : ℕ) (m : Memory) (there : true ≡ ltb w 16) where
+module _ (w : ℕ) (m : Memory) (there : w < 16) where
   pub ready_none : (done : Pending → Told × Memory) → None ≡ get_or m.writers w None → ◌≡◌ {A = Told × Memory} (refused (IdleWriter w), m) (if_ready m w done)
   ready_none done e = ap (λ o. some_else {B = Told × Memory} o (refused (IdleWriter w), m) done) e ∙ writer_some w m (some_else (get_or m.writers w None) (refused (IdleWriter w), m) done) there
 
@@ -63,11 +63,11 @@ module _ (w : ℕ) (m : Memory) where
       cond (leb 65536 m.log.count) (refuse m LogFull)
       (cond (eqb p.looked m.log.count) (put_told_by m w p (put_entry (entry_for w m.log.count p) m.log)) (not_yet, m))
 
-  pub put_nobody : false ≡ ltb w 16 → ◌≡◌ {A = Told × Memory} (refused (NoSuchWriter w), m) (put_done w m)
+  pub put_nobody : 16 ≤ w → ◌≡◌ {A = Told × Memory} (refused (NoSuchWriter w), m) (put_done w m)
   unfolding put_done
   put_nobody e = writer_none w m (some_else (get_or m.writers w None) (refuse m (IdleWriter w)) put_of) e
 
-  module _ (there : true ≡ ltb w 16) where
+  module _ (there : w < 16) where
     pub put_idle : None ≡ get_or m.writers w None → ◌≡◌ {A = Told × Memory} (refused (IdleWriter w), m) (put_done w m)
     unfolding put_done
     put_idle e = ready_none w m there put_of e
@@ -96,11 +96,11 @@ module _ (w : ℕ) (m : Memory) where
       (look_told_by m w p (conflict_among p.change m.log (m.log.count - p.looked) p.looked))
       (again, with_pending m w None)
 
-  pub look_nobody : false ≡ ltb w 16 → ◌≡◌ {A = Told × Memory} (refused (NoSuchWriter w), m) (look_done w m)
+  pub look_nobody : 16 ≤ w → ◌≡◌ {A = Told × Memory} (refused (NoSuchWriter w), m) (look_done w m)
   unfolding look_done
   look_nobody e = writer_none w m (some_else (get_or m.writers w None) (refuse m (IdleWriter w)) look_of) e
 
-  module _ (there : true ≡ ltb w 16) where
+  module _ (there : w < 16) where
     pub look_idle : None ≡ get_or m.writers w None → ◌≡◌ {A = Told × Memory} (refused (IdleWriter w), m) (look_done w m)
     unfolding look_done
     look_idle e = ready_none w m there look_of e

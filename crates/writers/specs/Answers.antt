@@ -1,18 +1,19 @@
 -- What answers tell.
-use Rattle.std.specs.Prelude.{◌≡◌, Bool, false, vec_items, MatchBool, ◌==◌}
+use Rattle.std.specs.Prelude.{◌≡◌, Bool, false, Ok, Err, vec_items, MatchBool, Result, ◌==◌}
+use Rattle.rows.specs.declared.refusal.Refusal.{Refusal}
 use Rattle.rows.specs.Refusals.{number_of}
 use Rattle.writers.specs.declared.answer.Answer.{Answer}
-use Rattle.writers.specs.declared.answer.Answer.TheVariants.{Fine, Again, NotYet, Counted, Rows, Refused}
+use Rattle.writers.specs.declared.answer.Answer.TheVariants.{Fine, Again, NotYet, Counted, Rows}
 use Rattle.writers.specs.Memory.{Memory}
 use Rattle.writers.specs.Model.{Told, fine, again, not_yet, counted, shows, refused}
 
-abbrev pub told_of : Answer → Told
-told_of Fine = fine
-told_of Again = again
-told_of NotYet = not_yet
-told_of (Counted n) = counted n
-told_of (Rows rows) = shows (vec_items rows)
-told_of (Refused e) = refused e
+abbrev pub told_of : Result Answer Refusal → Told
+told_of (Ok Fine) = fine
+told_of (Ok Again) = again
+told_of (Ok NotYet) = not_yet
+told_of (Ok (Counted n)) = counted n
+told_of (Ok (Rows rows)) = shows (vec_items rows)
+told_of (Err e) = refused e
 
 -- whether memory ran out
 abbrev pub told_out : Told → Bool

@@ -1,5 +1,5 @@
 -- A table as it lies in memory: the numbers of its store, the four lent slices, and its writers.
-use Rattle.std.specs.Prelude.{ℕ, List, map, Some, None, vec_items, Option, slice_set}
+use Rattle.std.specs.Prelude.{ℕ, List, map, Some, None, Option, slice_set}
 use Rattle.codec.specs.Entries.{TableChange, change_of}
 use Rattle.store.specs.Log.{Log, log_of}
 use Rattle.store.specs.Putting.{Files, files_of}
@@ -16,7 +16,7 @@ pub record Pending : Type 0 where
   pub change : TableChange
 
 abbrev pub pending_of : Draft → Pending
-pending_of d = record { began = d.began; looked = d.looked; serial = d.serial; change = change_of d.change }
+pending_of d = record { began = d.began; looked = d.entry.place; serial = d.entry.serial; change = change_of d.entry.change }
 
 -- none where the writer is idle
 abbrev pub held_by : Writer → Option Pending
@@ -34,7 +34,7 @@ memory_of t directory files ends log = record {
   horizon = t.store.horizon;
   files = files_of t.store directory files;
   log = log_of t.store ends log;
-  writers = map held_by (vec_items t.writers);
+  writers = map held_by t.writers;
 }
 
 abbrev pub with_pending : Memory → ℕ → Option Pending → Memory

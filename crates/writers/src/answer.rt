@@ -1,5 +1,4 @@
-// What a deed is told.
-use rows::refusal::Refusal;
+// What a deed is told, if it is not refused.
 use rows::row::Row;
 
 #[derive(Drop)]
@@ -13,5 +12,4 @@ pub enum Answer {
     Counted(u64),
     // The rows of a version, file by file.
     Rows(Vec<Row>),
-    Refused(Refusal),
 }

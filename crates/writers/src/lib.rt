@@ -1,8 +1,7 @@
 // Writers of a table: begin, look, put and stop, and what they promise together.
 #![tactic(auto)]
 
-ghost use Rattle.std.specs.Prelude.{◌≡◌, vec_len};
-
+use crate::desk::WRITERS;
 use crate::writer::Writer;
 use store::Store;
 
@@ -14,10 +13,9 @@ mod putting;
 mod reading;
 pub mod writer;
 
-// A table in lent memory: the numbers of its store and its sixteen writers. The four slices go beside it.
+// A table in lent memory: the numbers of its store and its writers. The four slices go beside it.
 #[derive(Drop)]
 pub struct Table {
     store: Store,
-    writers: Vec<Writer>,
-    ghost sixteen: { vec_len writers ≡ 16 },
+    writers: [Writer; WRITERS],
 }

@@ -10,7 +10,7 @@ ghost use Rattle.writers.specs.Memory.{memory_of};
 use crate::Table;
 use crate::answer::Answer;
 use crate::desk::index_of;
-use crate::writer::Draft;
+use crate::writer::Writer;
 use codec::action::Action;
 use codec::entry::Change;
 use rows::refusal::Refusal;
@@ -43,59 +43,56 @@ fn conflict_since(
 ) -> Result<bool, Refusal>
     ensures { UnlessOut result (result ≡ conflict_among (change_of mine.now) (log_of store.now ends.now log.now) (store.now.entries - looked) looked) }
 {
-    let taken = set_of(heap, mine.takes.as_slice())?;
+    let taken = set_of(heap, &mine.takes)?;
     let span = span_of(mine.action);
-    let mut found = false;
-    'search: for place in looked..store.entries() {
-        let Some(entry) = store.entry(heap, ends, log, place)? else {
-            return Err(Refusal::DamagedEntry(place as u32));
-        };
-        for number in entry.change.takes.as_slice() {
-            if taken.contains(number) {
-                found = true;
-                break 'search;
+    // The loops over entries and their files are left by a label.
+    let found = 'search: {
+        for place in looked..store.entries() {
+            let Some(entry) = store.entry(heap, ends, log, place)? else {
+                return Err(Refusal::DamagedEntry(place as u32));
+            };
+            for number in &entry.change.takes {
+                if taken.contains(number) {
+                    break 'search true;
+                }
+            }
+            let Some(keys) = span else {
+                continue;
+            };
+            for added in &entry.change.adds {
+                if keys.overlaps(added.keys) {
+                    break 'search true;
+                }
             }
         }
-        let Some(keys) = span else {
-            continue;
-        };
-        for added in entry.change.adds.as_slice() {
-            if keys.overlaps(added.keys) {
-                found = true;
-                break 'search;
-            }
-        }
-    }
+        false
+    };
     Ok(found)
 }
 
 impl Table {
     // Looks at the entries that came since the writer looked last. Where one is in conflict, or the version at which the writer began is no longer kept, it is told to begin anew and is idle.
-    pub fn look(&mut self, heap: Global, ends: &[u64], log: &[u8], writer: u64) -> Answer
+    pub fn look(
+        &mut self,
+        heap: Global,
+        ends: &[u64],
+        log: &[u8],
+        writer: u64,
+    ) -> Result<Answer, Refusal>
         ensures { (d fs : List ℕ) → Does (told_of result) (memory_of self.old d fs ends.now log.now) (memory_of self.new d fs ends.now log.now) (look_done writer (memory_of self.old d fs ends.now log.now)) }
     {
-        let Some(index) = index_of(writer) else {
-            return Answer::Refused(Refusal::NoSuchWriter(writer));
+        let index = index_of(writer)?;
+        let Writer::Ready(draft) = &mut self.writers[index] else {
+            return Err(Refusal::IdleWriter(writer));
         };
-        let Some(mut draft) = self.take_draft(index) else {
-            return Answer::Refused(Refusal::IdleWriter(writer));
-        };
-        if !is_kept(&self.store, draft.began) {
-            return Answer::Again;
+        let entry = &mut draft.entry;
+        if !is_kept(&self.store, draft.began)
+            || conflict_since(heap, &self.store, ends, log, entry.place, &entry.change)?
+        {
+            self.writers[index] = Writer::Idle;
+            return Ok(Answer::Again);
         }
-        match conflict_since(heap, &self.store, ends, log, draft.looked, &draft.change) {
-            Ok(found) => {
-                if found {
-                    return Answer::Again;
-                }
-                draft.looked = self.store.entries();
-                self.give_draft(index, draft);
-                Answer::Fine
-            }
-            Err(refusal) => {
-                self.give_draft(index, draft);
-                Answer::Refused(refusal)
-            }
-        }
+        entry.place = self.store.entries();
+        Ok(Answer::Fine)
     }
 }

@@ -7,11 +7,11 @@ ghost use Rattle.writers.specs.Memory.{memory_of};
 use crate::Table;
 use crate::answer::Answer;
 use crate::desk::index_of;
-use crate::writer::Draft;
-use codec::entry::Entry;
+use crate::writer::Writer;
 use rows::refusal::{LOG_LIMIT, Refusal};
 use store::unput::Unput;
 
+// Why an entry is not put, as a deed tells it.
 fn unput_refusal(unput: Unput) -> Refusal
     ensures { result ≡ unput_refusal unput }
 {
@@ -25,68 +25,36 @@ fn unput_refusal(unput: Unput) -> Refusal
 
 impl Table {
     // The writer is idle, whatever it was.
-    pub fn stop(&mut self, writer: u64) -> Answer
+    pub fn stop(&mut self, writer: u64) -> Result<Answer, Refusal>
         ensures { (d fs es l : List ℕ) → (told_of result, memory_of self.new d fs es l) ≡ stop_done writer (memory_of self.old d fs es l) }
     {
-        let Some(index) = index_of(writer) else {
-            return Answer::Refused(Refusal::NoSuchWriter(writer));
-        };
-        let _ = self.take_draft(index);
-        Answer::Fine
+        let index = index_of(writer)?;
+        self.writers[index] = Writer::Idle;
+        Ok(Answer::Fine)
     }
-}
 
-impl Table {
     // Puts the entry of a writer that has looked up to the newest version behind the others, and tells its count. Where it is not put, nothing changes.
-    pub fn put(&mut self, ends: &mut [u64], log: &mut [u8], writer: u64) -> Answer
+    pub fn put(&mut self, ends: &mut [u64], log: &mut [u8], writer: u64) -> Result<Answer, Refusal>
         ensures { (d fs : List ℕ) → (told_of result, memory_of self.new d fs ends.new log.new) ≡ put_done writer (memory_of self.old d fs ends.old log.old) }
     {
-        let Some(index) = index_of(writer) else {
-            return Answer::Refused(Refusal::NoSuchWriter(writer));
+        let index = index_of(writer)?;
+        let Writer::Ready(draft) = &mut self.writers[index] else {
+            return Err(Refusal::IdleWriter(writer));
         };
-        let Some(draft) = self.take_draft(index) else {
-            return Answer::Refused(Refusal::IdleWriter(writer));
-        };
+        let entry = &mut draft.entry;
         let newest = self.store.entries();
         if newest >= LOG_LIMIT {
-            self.give_draft(index, draft);
-            return Answer::Refused(Refusal::LogFull);
+            return Err(Refusal::LogFull);
         }
-        if draft.looked != newest {
-            self.give_draft(index, draft);
-            return Answer::NotYet;
+        if entry.place != newest {
+            return Ok(Answer::NotYet);
         }
-        let Draft {
-            began,
-            looked,
-            serial,
-            change,
-        } = draft;
-        let touched = change.touched;
-        let entry = Entry {
-            place: newest,
-            writer: index as u8,
-            serial,
-            change,
-        };
-        let Err(unput) = self.store.put_entry(ends, log, &entry) else {
-            return Answer::Counted(touched);
-        };
-        let Entry {
-            place: _,
-            writer: _,
-            serial,
-            change,
-        } = entry;
-        self.give_draft(
-            index,
-            Draft {
-                began,
-                looked,
-                serial,
-                change,
-            },
-        );
-        Answer::Refused(unput_refusal(unput))
+        entry.writer = index as u8;
+        let touched = entry.change.touched;
+        if let Err(unput) = self.store.put_entry(ends, log, entry) {
+            return Err(unput_refusal(unput));
+        }
+        self.writers[index] = Writer::Idle;
+        Ok(Answer::Counted(touched))
     }
 }

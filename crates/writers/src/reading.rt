@@ -5,6 +5,7 @@ ghost use Rattle.writers.specs.Memory.{memory_of};
 
 use crate::Table;
 use crate::answer::Answer;
+use rows::refusal::Refusal;
 use std::alloc::Global;
 use versions::reading::read_version;
 
@@ -18,12 +19,10 @@ impl Table {
         ends: &[u64],
         log: &[u8],
         version: u64,
-    ) -> Answer
+    ) -> Result<Answer, Refusal>
         ensures { Does (told_of result) (memory_of self.now directory.now files.now ends.now log.now) (memory_of self.now directory.now files.now ends.now log.now) (read_done version (memory_of self.now directory.now files.now ends.now log.now)) }
     {
-        match read_version(heap, &self.store, directory, files, ends, log, version) {
-            Ok(rows) => Answer::Rows(rows),
-            Err(refusal) => Answer::Refused(refusal),
-        }
+        let rows = read_version(heap, &self.store, directory, files, ends, log, version)?;
+        Ok(Answer::Rows(rows))
     }
 }

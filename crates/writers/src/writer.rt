@@ -1,16 +1,15 @@
 // A writer of a table.
-use codec::entry::Change;
+use codec::entry::Entry;
 
-// What a ready writer would put: the version at which it began, the one up to which it has looked, how many entries it had put before,
-// and what its entry does to the table.
+// What a ready writer would put: the version at which it began, and its entry. The place of the entry is the version up to which the writer
+// has looked.
 #[derive(Drop)]
 pub struct Draft {
     pub began: u64,
-    pub looked: u64,
-    pub serial: u64,
-    pub change: Change,
+    pub entry: Entry,
 }
 
+// An enum with its cases and no Option, as orders and answers are.
 #[derive(Drop)]
 pub enum Writer {
     Idle,

@@ -1,17 +1,31 @@
-use Rattle.std.proofs.Common.{◌≡◌, vec_items, sym, ap, ◌∙◌, arith}
+use Rattle.std.proofs.Common.{◌≡◌, ◌++◌, not, filter, vec_items, sym, ap, ◌∙◌, rules}
+use Rattle.std.specs.BTreeSet.{contains as in_set}
+use Rattle.std.specs.Ordering.{nat_cmp}
+use Rattle.std.proofs.lemmas.Fn.{filter_same}
 use Rattle.std.proofs.lemmas.List.{nil_from_length}
-use Rattle.versions.specs.Alive.{minus, has}
-use Rattle.versions.proofs.LiveLaws.{minus_by_set, changed}
+use Rattle.std.proofs.lemmas.Iterator.{YieldsList-from_slice, YieldsList-from_map}
+use Rattle.std.proofs.lemmas.Iterator.Consumers.{YieldsList-at}
+use Rattle.std.proofs.lemmas.Iterator.Adapters.{items_from_extend}
+use Rattle.codec.specs.declared.entry.Added.{Added}
+use Rattle.versions.specs.Alive.{has, minus, numbers}
+use Rattle.versions.proofs.LiveLaws.{minus_by_set}
 use Rattle.versions.proofs.Tallies.{minus_none}
 use Rattle.versions.proofs.live.apply_change.Goals as goal
-use Rattle.versions.proofs.live.apply_change.Goals.{then-len-gt0+in_ok-taken, else-len-gt0}
+use Rattle.versions.proofs.live.apply_change.Goals.{then-not-is_empty+in_ok-taken, else-not-is_empty}
 
 pub returns : goal.returns
 returns c =
     let live = vec_items c.args.live.now in
     let takes = vec_items c.args.change.now.takes in
-    let mid : vec_items c.if-len-gt0.live ≡ minus live takes = elim c.if-len-gt0.branch [
-      | then-len-gt0+in_ok-taken w ↦ ap vec_items w.live-is ∙ w.keep_others.ensures ∙ minus_by_set w.in_ok-taken.taken live takes (λ n. w.in_ok-taken.ensures.1 n ∙ ap (λ l. has l n) w.as_slice.ensures.value)
-      | else-len-gt0 w ↦ ap vec_items w.live-is ∙ sym (ap (minus live) (nil_from_length takes (omega (arith, w.if-len-gt0.false, c.len.ensures, c.args.change.now.takes.ok.0))) ∙ minus_none live)
+    let adds = vec_items c.args.change.now.adds in
+    let mid : vec_items c.if-not-is_empty.live ≡ minus live takes = elim c.if-not-is_empty.branch [
+      | then-not-is_empty+in_ok-taken w ↦
+          let taken = w.in_ok-taken.taken in
+          let kept : vec_items w.retain.new.self ≡ filter (λ n. not (in_set nat_cmp taken n)) live = filter_same _ _ _ (λ x b f' k. search rules) _ _ w.retain.ensures.filtered in
+          ap vec_items w.live-is ∙ kept ∙ minus_by_set taken live takes (λ n. w.in_ok-taken.ensures.1 n ∙ ap (λ l. has l n) w.deref.ensures.value)
+      | else-not-is_empty w ↦ ap vec_items w.live-is ∙ sym (ap (minus live) (nil_from_length takes (search rules)) ∙ minus_none live)
     ] in
-    changed c.push_numbers.result _ (vec_items c.if-len-gt0.live) live takes c.as_slice-2.result.now (vec_items c.args.change.now.adds) c.as_slice-2.ensures.value mid c.push_numbers.ensures
+    let behind = items_from_extend c.extend.result c.extend.ensures.ran
+    (YieldsList-from_map _ (λ (a : Added). a.number) (YieldsList-at c.map.ensures.source (YieldsList-from_slice adds (search rules))) c.map.ensures.closure (λ x r q k. search rules)) in
+    let new : vec_items c.extend.new.self ≡ vec_items c.if-not-is_empty.live ++ numbers adds = search rules in
+    new ∙ ap (λ l. l ++ numbers adds) mid

@@ -29,5 +29,5 @@ returns c =
     let live = c.in_ok-live.ensures in
     let same : vec_items c.in_ok-live.live ≡ live_of es = cc in
     unless_map c.rows_of.result _ _ (λ e.
-    e ∙ ap (rows_held s) (c.as_slice.ensures.value ∙ same)
+    e ∙ ap (rows_held s) (c.deref.ensures.value ∙ same)
     ∙ read_kept c.args.store.now.horizon s l c.args.version es c.in_ok-history.ensures c.if-not-is_kept.ensures) c.rows_of.ensures
