@@ -3,6 +3,7 @@ ghost use Rattle.std.specs.Prelude.{◌≡◌, ◌&&◌, true, false, MatchResul
 ghost use Rattle.codec.specs.Bounds.{is_key};
 ghost use Rattle.codec.specs.Actions.{HasWords, ReadsAs};
 
+use rows::kind::Kind;
 use rows::span::Span;
 
 // An order without its rows: the files that an entry adds have them.
@@ -23,12 +24,13 @@ impl From<Action> for [u64; 4] {
     ghost from_gives = { HasWords };
 
     fn from(action: Action) -> [u64; 4] {
-        match action {
-            Action::Insert => [0, 0, 0, 0],
-            Action::Erase(span) => [1, span.from as u64, span.to as u64, 0],
-            Action::Raise(span, by) => [2, span.from as u64, span.to as u64, by as u64],
-            Action::Pack(most) => [3, most, 0, 0],
-        }
+        let (kind, [a, b, c]) = match action {
+            Action::Insert => (Kind::Insert, [0, 0, 0]),
+            Action::Erase(span) => (Kind::Erase, [span.from.into(), span.to.into(), 0]),
+            Action::Raise(span, by) => (Kind::Raise, [span.from.into(), span.to.into(), by.into()]),
+            Action::Pack(most) => (Kind::Pack, [most, 0, 0]),
+        };
+        [kind.into(), a, b, c]
     }
 }
 
@@ -38,11 +40,15 @@ impl TryFrom<[u64; 4]> for Action {
     ghost try_from_gives = { ReadsAs };
 
     fn try_from(words: [u64; 4]) -> Result<Action, NoAction> {
-        match words {
-            [0, 0, 0, 0] => Ok(Action::Insert),
-            [1, from, to, 0] => Ok(Action::Erase(span(from, to)?)),
-            [2, from, to, by] => Ok(Action::Raise(span(from, to)?, key(by)?)),
-            [3, most, 0, 0] => Ok(Action::Pack(most)),
+        let [kind, a, b, c] = words;
+        let Ok(kind) = Kind::try_from(kind) else {
+            return Err(NoAction);
+        };
+        match (kind, [a, b, c]) {
+            (Kind::Insert, [0, 0, 0]) => Ok(Action::Insert),
+            (Kind::Erase, [from, to, 0]) => Ok(Action::Erase(span(from, to)?)),
+            (Kind::Raise, [from, to, by]) => Ok(Action::Raise(span(from, to)?, key(by)?)),
+            (Kind::Pack, [most, 0, 0]) => Ok(Action::Pack(most)),
             _ => Err(NoAction),
         }
     }

@@ -16,8 +16,8 @@ use rows::refusal::Refusal;
 use rows::span::Span;
 use std::alloc::{AllocError, Global};
 
-// Writers are below 16.
-const WRITERS: u8 = 16;
+// How many writers there are.
+pub const WRITERS: usize = 16;
 
 // The most numbers whose length in bytes fits 64 bits.
 const MOST_WORDS: usize = 2305843009213693951;
@@ -129,7 +129,7 @@ impl Entry {
     fn front(&self) -> Option<Front>
         ensures { result ≡ front_of (entry_of self.now) }
     {
-        if self.writer >= WRITERS {
+        if self.writer as usize >= WRITERS {
             return None;
         }
         let change = &self.change;

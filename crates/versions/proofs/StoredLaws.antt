@@ -1,16 +1,12 @@
 -- Where a file of a store lies, and its rows one by one.
-use Rattle.std.proofs.Common.{◌≡◌, ℕ, suc, ◌+◌, ◌-◌, ◌*◌, ◌<◌, ◌≤◌, Bool, true, false, cond, eqb, ◌⊎◌, List, [], ◌∷◌, length, get_or, take, drop, Some, None, Option, sym, refl, ap, ◌∙◌, subst, inl, inr, arith}
+use Rattle.std.proofs.Common.{◌≡◌, ℕ, ◌+◌, ◌-◌, ◌*◌, ◌<◌, ◌≤◌, Bool, true, false, cond, eqb, ◌⊎◌, List, [], length, take, drop, Some, None, Option, sym, refl, ap, ◌∙◌, subst, inl, inr, arith}
 use Rattle.std.specs.Option.{option_map}
-use Rattle.std.specs.List.{filter_map, cons_option, range_with_len}
-use Rattle.std.proofs.lemmas.List.{get_or_default}
 use Rattle.std.proofs.lemmas.Bool.{cases_lt, le-leb}
 use Rattle.rows.specs.Checks.{some_else}
-use Rattle.rows.specs.declared.row.Row.{Row}
-use Rattle.codec.specs.Files.{File, head_of, file_in, row_in}
-use Rattle.codec.specs.Rewrites.{part_in, rows_in}
-use Rattle.codec.specs.Words.{words_of}
+use Rattle.codec.specs.Files.{File, head_of, file_in}
+use Rattle.codec.specs.Rewrites.{part_in}
 use Rattle.codec.specs.declared.rewrite.Part.{Part}
-use Rattle.codec.proofs.RewriteLaws.{head_there, row_there, row_not_there}
+use Rattle.codec.proofs.RewriteLaws.{head_there}
 use Rattle.store.specs.declared.files.Stored.{Stored}
 use Rattle.store.specs.Putting.{Files}
 use Rattle.store.specs.Slots.{slot_size, slots, length_at, slot_with, slot_bytes, stored_at, stored}
@@ -67,25 +63,6 @@ module _ (s : Files) (n : ℕ) (x : Stored) where
       by : (o : Option ℕ) → slot_with s.directory many (n + 1) ≡ o → some_else o None (stored_at s.most s.directory s.bytes n) ≡ Some x → Lies s x
       by None p q = absurd (let z : ◌≡◌ {A = ℕ} 0 1 = cc in omega arith)
       by (Some j) p q = at j (slot_within s.directory many (n + 1) j (sym p)) q (cases_lt (slot_size s.most) (long j))
-
--- rows that are there one by one
-walked : (found : ℕ → Option Row) (a : ℕ) (rs : List Row) → ((i : ℕ) → i < length rs → (d : Row) → found (a + i) ≡ Some (get_or rs i d)) → filter_map found (range_with_len a (length rs)) ≡ rs
-walked found a [] h = refl
-walked found a (r ∷ rs) h =
-    let next : (i : ℕ) → i < length rs → (d : Row) → found (a + 1 + i) ≡ Some (get_or rs i d) = λ i l d. ap found (omega arith) ∙ h (suc i) (omega arith) d in
-    let here : found a ≡ Some r = ap found (omega arith) ∙ h 0 (omega arith) r in
-    ap (λ o. cons_option o (filter_map found (range_with_len (a + 1) (length rs)))) here ∙ ap (λ l. r ∷ l) (walked found (a + 1) rs next)
-
--- the rows of a file are those that its numbers have, one by one
-pub rows_walked : (bytes : List ℕ) (count : ℕ) → HasRows bytes count → filter_map (row_in (words_of bytes)) (range_with_len 0 count) ≡ rows_in bytes
-rows_walked bytes count has = ap (λ n. filter_map (row_in (words_of bytes)) (range_with_len 0 n)) (sym has.1) ∙ walked (row_in (words_of bytes)) 0 (rows_in bytes) there
-  where
-    there : (i : ℕ) → i < length (rows_in bytes) → (d : Row) → row_in (words_of bytes) (0 + i) ≡ Some (get_or (rows_in bytes) i d)
-    there i l d = ap (row_in (words_of bytes)) (omega arith) ∙ by (row_in (words_of bytes) i) refl
-      where
-        by : (o : Option Row) → row_in (words_of bytes) i ≡ o → o ≡ Some (get_or (rows_in bytes) i d)
-        by None e = absurd (row_not_there bytes i has.0 l (sym e))
-        by (Some r) e = ap Some (sym (row_there bytes i has.0 l r (sym e)) ∙ get_or_default (rows_in bytes) i r d l)
 
 -- of `&files[start..start + length]`
 pub part_slice : (p : Part) (xs : List ℕ) → take (p.start + p.length - p.start) (drop p.start xs) ≡ part_in p xs

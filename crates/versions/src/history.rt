@@ -1,7 +1,7 @@
 // The first entries of a log, opened: which files they leave, and whose they are.
 ghost use Rattle.std.specs.Prelude.{◌≡◌, ◌<◌, Ok};
 ghost use Rattle.rows.specs.Refusals.{UnlessOut};
-ghost use Rattle.store.specs.Log.{log_of};
+ghost use Rattle.store.specs.Memory.{log_in};
 ghost use Rattle.store.specs.Slots.{items_of};
 ghost use Rattle.versions.specs.Histories.{history_in, history_of, entries_of, live_of, puts_by, is_put, first_place};
 
@@ -10,6 +10,7 @@ use codec::entry::Entry;
 use rows::refusal::Refusal;
 use std::alloc::Global;
 use store::Store;
+use store::memory::LogMemory;
 
 #[derive(Drop)]
 pub struct History {
@@ -21,15 +22,14 @@ impl History {
     pub fn open(
         heap: Global,
         store: &Store,
-        ends: &[u64],
-        log: &[u8],
+        log: LogMemory<'_>,
         version: u64,
     ) -> Result<History, Refusal>
-        ensures { UnlessOut result (history_of result ≡ history_in (log_of store.now ends.now log.now) version) }
+        ensures { UnlessOut result (history_of result ≡ history_in (log_in store.now log.entry) version) }
     {
         let mut entries = Vec::new(heap);
         for place in 0..version.min(store.entries()) {
-            let Some(entry) = store.entry(heap, ends, log, place)? else {
+            let Some(entry) = store.entry(heap, log, place)? else {
                 return Err(Refusal::DamagedEntry(place as u32));
             };
             entries.push(entry)?;

@@ -1,7 +1,7 @@
 // What a span finds in the files of a version.
 ghost use Rattle.std.specs.Prelude.{◌≡◌};
 ghost use Rattle.rows.specs.Refusals.{UnlessOut};
-ghost use Rattle.store.specs.Putting.{files_of};
+ghost use Rattle.store.specs.Memory.{files_in};
 ghost use Rattle.store.specs.Slots.{items_of};
 ghost use Rattle.versions.specs.Previews.{previews};
 
@@ -11,6 +11,7 @@ use rows::span::Span;
 use std::alloc::Global;
 use store::Store;
 use store::files::Stored;
+use store::memory::FileMemory;
 
 // A file with a key in the span: how many of its rows are in the span, and how many stay when those go.
 #[derive(Clone, Copy)]
@@ -24,16 +25,15 @@ pub struct Preview {
 pub fn files_in_span(
     heap: Global,
     store: &Store,
-    directory: &[u64],
-    files: &[u8],
+    files: FileMemory<'_>,
     numbers: &[u32],
     span: Span,
 ) -> Result<Vec<Preview>, Refusal>
-    ensures { UnlessOut result (items_of result ≡ previews (files_of store.now directory.now files.now) span numbers.now) }
+    ensures { UnlessOut result (items_of result ≡ previews (files_in store.now files.entry) span numbers.now) }
 {
     let mut found = Vec::new(heap);
     for number in numbers {
-        let held = Held::find(store, directory, files, *number)?;
+        let held = Held::find(store, files, *number)?;
         let inside = held.count_inside(span);
         if inside > 0 {
             found.push(Preview {

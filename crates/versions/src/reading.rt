@@ -1,8 +1,7 @@
 // The rows of a version, file by file.
 ghost use Rattle.std.specs.Prelude.{◌≡◌};
 ghost use Rattle.rows.specs.Refusals.{UnlessOut};
-ghost use Rattle.store.specs.Log.{log_of};
-ghost use Rattle.store.specs.Putting.{files_of};
+ghost use Rattle.store.specs.Memory.{files_in, log_in};
 ghost use Rattle.store.specs.Slots.{items_of};
 ghost use Rattle.versions.specs.FilesHeld.{rows_held};
 ghost use Rattle.versions.specs.Reading.{rows_at};
@@ -14,20 +13,20 @@ use rows::refusal::Refusal;
 use rows::row::Row;
 use std::alloc::Global;
 use store::Store;
+use store::memory::{FileMemory, LogMemory};
 
 // The rows of some files, one after the other; the first that is missing or damaged is told.
 pub fn rows_of(
     heap: Global,
     store: &Store,
-    directory: &[u64],
-    files: &[u8],
+    files: FileMemory<'_>,
     numbers: &[u32],
 ) -> Result<Vec<Row>, Refusal>
-    ensures { UnlessOut result (items_of result ≡ rows_held (files_of store.now directory.now files.now) numbers.now) }
+    ensures { UnlessOut result (items_of result ≡ rows_held (files_in store.now files.entry) numbers.now) }
 {
     let mut rows = Vec::new(heap);
     for number in numbers {
-        let held = Held::find(store, directory, files, *number)?;
+        let held = Held::find(store, files, *number)?;
         held.push_rows(&mut rows)?;
     }
     Ok(rows)
@@ -37,18 +36,16 @@ pub fn rows_of(
 pub fn read_version(
     heap: Global,
     store: &Store,
-    directory: &[u64],
-    files: &[u8],
-    ends: &[u64],
-    log: &[u8],
+    files: FileMemory<'_>,
+    log: LogMemory<'_>,
     version: u64,
 ) -> Result<Vec<Row>, Refusal>
-    ensures { UnlessOut result (items_of result ≡ rows_at store.now.horizon (files_of store.now directory.now files.now) (log_of store.now ends.now log.now) version) }
+    ensures { UnlessOut result (items_of result ≡ rows_at store.now.horizon (files_in store.now files.entry) (log_in store.now log.entry) version) }
 {
-    let history = History::open(heap, store, ends, log, version)?;
+    let history = History::open(heap, store, log, version)?;
     if !is_kept(store, version) {
         return Err(Refusal::NoSuchVersion(version));
     }
     let live = history.live(heap)?;
-    rows_of(heap, store, directory, files, &live)
+    rows_of(heap, store, files, &live)
 }

@@ -1,7 +1,7 @@
 -- What each deed tells, and all that memory holds afterwards.
 use Rattle.std.specs.Prelude.{ℕ, zero, suc, ◌+◌, ◌-◌, Bool, true, false, cond, List, Some, None, Ok, Err, Option, Result, ◌==◌, nat_le, nat_lt, slice_index_or, slice_set}
 use Rattle.rows.specs.declared.refusal.Refusal.{Refusal}
-use Rattle.rows.specs.declared.refusal.Refusal.TheVariants.{NoSuchWriter, IdleWriter, NoRoom, LogFull, DamagedEntry}
+use Rattle.rows.specs.declared.refusal.Refusal.TheVariants.{NoSuchWriter, IdleWriter, LogFull, DamagedEntry}
 use Rattle.rows.specs.declared.row.Row.{Row}
 use Rattle.rows.specs.Checks.{some_else}
 use Rattle.rows.specs.declared.span.Span.{Span}
@@ -9,8 +9,8 @@ use Rattle.codec.specs.declared.action.Action.{Action}
 use Rattle.codec.specs.declared.action.Action.TheVariants.{Insert, Erase, Raise, Pack}
 use Rattle.codec.specs.Entries.{TableChange, LogEntry, writer_limit}
 use Rattle.store.specs.declared.unput.Unput.{Unput}
-use Rattle.store.specs.declared.unput.Unput.TheVariants.{Refused, OtherPlace, NumberTaken, OutOfBounds}
 use Rattle.store.specs.Log.{Log, put_entry}
+use Rattle.store.specs.Unputs.{unput_refusal}
 use Rattle.store.specs.StoreLaws.{entry_under}
 use Rattle.versions.specs.Conflicts.{conflict}
 use Rattle.versions.specs.Kept.{kept}
@@ -36,13 +36,6 @@ stop_done w m = if_writer m w (fine, with_pending m w None)
 -- the entry that a ready writer puts
 abbrev pub entry_for : ℕ → ℕ → Pending → LogEntry
 entry_for w k p = record { place = k; writer = w; serial = p.serial; change = p.change }
-
--- why an entry is not put; one that cannot be written at all finds no room
-abbrev pub unput_refusal : Unput → Refusal
-unput_refusal (Refused e) = e
-unput_refusal OtherPlace = NoRoom 0
-unput_refusal NumberTaken = NoRoom 0
-unput_refusal OutOfBounds = NoRoom 0
 
 abbrev pub put_told_by : Memory → ℕ → Pending → Result ℕ Unput × Log → Told × Memory
 put_told_by m w p (Ok v, l) = (counted p.change.touched, record { horizon = m.horizon; files = m.files; log = l; writers = slice_set m.writers w None })

@@ -2,9 +2,8 @@
 ghost use Rattle.std.specs.Prelude.{◌≡◌, ◌<◌, ◌≤◌, MatchResult};
 ghost use Rattle.rows.specs.declared.refusal.Refusal.TheVariants.{NoSuchWriter};
 
+use codec::entry::WRITERS;
 use rows::refusal::Refusal;
-
-pub(crate) const WRITERS: usize = 16;
 
 // The index of a writer, if there is such a one.
 pub(crate) fn index_of(writer: u64) -> Result<usize, Refusal>

@@ -1,8 +1,8 @@
 // Writers of a table: begin, look, put and stop, and what they promise together.
 #![tactic(auto)]
 
-use crate::desk::WRITERS;
 use crate::writer::Writer;
+use codec::entry::WRITERS;
 use store::Store;
 
 pub mod answer;
@@ -13,7 +13,7 @@ mod putting;
 mod reading;
 pub mod writer;
 
-// A table in lent memory: the numbers of its store and its writers. The four slices go beside it.
+// A table in lent memory: the numbers of its store and its writers. The memory goes beside it.
 #[derive(Drop)]
 pub struct Table {
     store: Store,

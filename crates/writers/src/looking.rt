@@ -2,7 +2,7 @@
 ghost use Rattle.std.specs.Prelude.{◌≡◌, ℕ, ◌-◌, List};
 ghost use Rattle.rows.specs.Refusals.{UnlessOut};
 ghost use Rattle.codec.specs.Entries.{change_of};
-ghost use Rattle.store.specs.Log.{log_of};
+ghost use Rattle.store.specs.Memory.{log_in};
 ghost use Rattle.writers.specs.Answers.{told_of, Does};
 ghost use Rattle.writers.specs.Deeds.{conflict_among, look_done, span_of};
 ghost use Rattle.writers.specs.Memory.{memory_of};
@@ -17,6 +17,7 @@ use rows::refusal::Refusal;
 use rows::span::Span;
 use std::alloc::Global;
 use store::Store;
+use store::memory::LogMemory;
 use versions::kept::is_kept;
 use versions::sets::set_of;
 
@@ -36,19 +37,18 @@ fn span_of(action: Action) -> Option<Span>
 fn conflict_since(
     heap: Global,
     store: &Store,
-    ends: &[u64],
-    log: &[u8],
+    log: LogMemory<'_>,
     looked: u64,
     mine: &Change,
 ) -> Result<bool, Refusal>
-    ensures { UnlessOut result (result ≡ conflict_among (change_of mine.now) (log_of store.now ends.now log.now) (store.now.entries - looked) looked) }
+    ensures { UnlessOut result (result ≡ conflict_among (change_of mine.now) (log_in store.now log.entry) (store.now.entries - looked) looked) }
 {
     let taken = set_of(heap, &mine.takes)?;
     let span = span_of(mine.action);
     // The loops over entries and their files are left by a label.
     let found = 'search: {
         for place in looked..store.entries() {
-            let Some(entry) = store.entry(heap, ends, log, place)? else {
+            let Some(entry) = store.entry(heap, log, place)? else {
                 return Err(Refusal::DamagedEntry(place as u32));
             };
             for number in &entry.change.takes {
@@ -75,11 +75,10 @@ impl Table {
     pub fn look(
         &mut self,
         heap: Global,
-        ends: &[u64],
-        log: &[u8],
+        log: LogMemory<'_>,
         writer: u64,
     ) -> Result<Answer, Refusal>
-        ensures { (d fs : List ℕ) → Does (told_of result) (memory_of self.old d fs ends.now log.now) (memory_of self.new d fs ends.now log.now) (look_done writer (memory_of self.old d fs ends.now log.now)) }
+        ensures { (d fs : List ℕ) → Does (told_of result) (memory_of self.old d fs log.entry.ends.now log.entry.bytes.now) (memory_of self.new d fs log.entry.ends.now log.entry.bytes.now) (look_done writer (memory_of self.old d fs log.entry.ends.now log.entry.bytes.now)) }
     {
         let index = index_of(writer)?;
         let Writer::Ready(draft) = &mut self.writers[index] else {
@@ -87,7 +86,7 @@ impl Table {
         };
         let entry = &mut draft.entry;
         if !is_kept(&self.store, draft.began)
-            || conflict_since(heap, &self.store, ends, log, entry.place, &entry.change)?
+            || conflict_since(heap, &self.store, log, entry.place, &entry.change)?
         {
             self.writers[index] = Writer::Idle;
             return Ok(Answer::Again);

@@ -1,7 +1,7 @@
 // Putting an entry, and stopping.
 ghost use Rattle.std.specs.Prelude.{◌≡◌, ℕ, List};
 ghost use Rattle.writers.specs.Answers.{told_of};
-ghost use Rattle.writers.specs.Deeds.{unput_refusal, stop_done, put_done};
+ghost use Rattle.writers.specs.Deeds.{stop_done, put_done};
 ghost use Rattle.writers.specs.Memory.{memory_of};
 
 use crate::Table;
@@ -9,20 +9,9 @@ use crate::answer::Answer;
 use crate::desk::index_of;
 use crate::writer::Writer;
 use rows::refusal::{LOG_LIMIT, Refusal};
-use store::unput::Unput;
+use store::memory::LogMemoryMut;
 
 // Why an entry is not put, as a deed tells it.
-fn unput_refusal(unput: Unput) -> Refusal
-    ensures { result ≡ unput_refusal unput }
-{
-    match unput {
-        Unput::Refused(refusal) => refusal,
-        Unput::OtherPlace => Refusal::NoRoom(0),
-        Unput::NumberTaken => Refusal::NoRoom(0),
-        Unput::OutOfBounds => Refusal::NoRoom(0),
-    }
-}
-
 impl Table {
     // The writer is idle, whatever it was.
     pub fn stop(&mut self, writer: u64) -> Result<Answer, Refusal>
@@ -34,8 +23,8 @@ impl Table {
     }
 
     // Puts the entry of a writer that has looked up to the newest version behind the others, and tells its count. Where it is not put, nothing changes.
-    pub fn put(&mut self, ends: &mut [u64], log: &mut [u8], writer: u64) -> Result<Answer, Refusal>
-        ensures { (d fs : List ℕ) → (told_of result, memory_of self.new d fs ends.new log.new) ≡ put_done writer (memory_of self.old d fs ends.old log.old) }
+    pub fn put(&mut self, log: &mut LogMemoryMut<'_>, writer: u64) -> Result<Answer, Refusal>
+        ensures { (d fs : List ℕ) → (told_of result, memory_of self.new d fs log.new.ends.now log.new.bytes.now) ≡ put_done writer (memory_of self.old d fs log.old.ends.now log.old.bytes.now) }
     {
         let index = index_of(writer)?;
         let Writer::Ready(draft) = &mut self.writers[index] else {
@@ -51,9 +40,7 @@ impl Table {
         }
         entry.writer = index as u8;
         let touched = entry.change.touched;
-        if let Err(unput) = self.store.put_entry(ends, log, entry) {
-            return Err(unput_refusal(unput));
-        }
+        self.store.put_entry(log, entry)?;
         self.writers[index] = Writer::Idle;
         Ok(Answer::Counted(touched))
     }

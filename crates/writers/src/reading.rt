@@ -7,6 +7,7 @@ use crate::Table;
 use crate::answer::Answer;
 use rows::refusal::Refusal;
 use std::alloc::Global;
+use store::memory::{FileMemory, LogMemory};
 use versions::reading::read_version;
 
 impl Table {
@@ -14,15 +15,13 @@ impl Table {
     pub fn read(
         &self,
         heap: Global,
-        directory: &[u64],
-        files: &[u8],
-        ends: &[u64],
-        log: &[u8],
+        files: FileMemory<'_>,
+        log: LogMemory<'_>,
         version: u64,
     ) -> Result<Answer, Refusal>
-        ensures { Does (told_of result) (memory_of self.now directory.now files.now ends.now log.now) (memory_of self.now directory.now files.now ends.now log.now) (read_done version (memory_of self.now directory.now files.now ends.now log.now)) }
+        ensures { Does (told_of result) (memory_of self.now files.entry.directory.now files.entry.bytes.now log.entry.ends.now log.entry.bytes.now) (memory_of self.now files.entry.directory.now files.entry.bytes.now log.entry.ends.now log.entry.bytes.now) (read_done version (memory_of self.now files.entry.directory.now files.entry.bytes.now log.entry.ends.now log.entry.bytes.now)) }
     {
-        let rows = read_version(heap, &self.store, directory, files, ends, log, version)?;
+        let rows = read_version(heap, &self.store, files, log, version)?;
         Ok(Answer::Rows(rows))
     }
 }

@@ -6,7 +6,7 @@ use Rattle.rows.specs.declared.refusal.Refusal.TheVariants.{DamagedFile}
 use Rattle.rows.specs.Rows.{many_within}
 use Rattle.rows.proofs.Rows.{many_le_length}
 use Rattle.codec.specs.Rewrites.{rows_in}
-use Rattle.store.specs.Putting.{files_of}
+use Rattle.store.specs.Memory.{files_in}
 use Rattle.versions.specs.Gathering.{behind, gathered}
 use Rattle.versions.specs.Previews.{preview_of, preview_found, previews}
 use Rattle.versions.proofs.GatherLaws.{gather_go, gather_stop, gather_end}
@@ -17,7 +17,7 @@ use Rattle.versions.proofs.preview.files_in_span.Goals.{then-inside-gt0+in_ok-pu
 pub returns-in_err-held : goal.returns-in_err-held
 unfolding previews
 returns-in_err-held c =
-    let s = files_of c.args.store.now c.args.directory.now c.args.files.now in
+    let s = files_in c.args.store.now c.args.files in
     let ns = c.args.numbers.now in
     let i = c.loop-number.number-index in
     let p = err_from_is_err_and c.from_residual.result c.from_residual.ensures.1 in
@@ -32,7 +32,7 @@ overflow_sub-held c =
 pub loop-number-preserved : goal.loop-number-preserved
 unfolding previews
 loop-number-preserved c =
-    let s = files_of c.args.store.now c.args.directory.now c.args.files.now in
+    let s = files_in c.args.store.now c.args.files in
     let span = c.args.span in
     let ns = c.args.numbers.now in
     let i = c.loop-number.number-index in
@@ -54,5 +54,5 @@ loop-number-preserved c =
 pub returns : goal.returns
 unfolding previews
 returns c =
-    let s = files_of c.args.store.now c.args.directory.now c.args.files.now in
+    let s = files_in c.args.store.now c.args.files in
     gather_end (preview_found s c.args.span) DamagedFile (vec_items c.loop-number.found) _ _ c.loop-number.invariant (drop_all c.loop-number.number-index c.args.numbers.now (omega arith))

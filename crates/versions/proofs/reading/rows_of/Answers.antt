@@ -4,7 +4,7 @@ use Rattle.std.proofs.lemmas.List.{drop_more, drop_all}
 use Rattle.std.proofs.lemmas.Result.{err_from_is_err_and}
 use Rattle.rows.specs.declared.refusal.Refusal.TheVariants.{DamagedFile}
 use Rattle.codec.specs.Rewrites.{rows_in}
-use Rattle.store.specs.Putting.{files_of}
+use Rattle.store.specs.Memory.{files_in}
 use Rattle.versions.specs.FilesHeld.{stored_rows, rows_found, rows_held}
 use Rattle.versions.specs.Gathering.{behind, gathered}
 use Rattle.versions.proofs.GatherLaws.{gather_go, gather_stop, gather_end}
@@ -13,7 +13,7 @@ use Rattle.versions.proofs.reading.rows_of.Goals as goal
 pub returns-in_err-held : goal.returns-in_err-held
 unfolding rows_held
 returns-in_err-held c =
-    let s = files_of c.args.store.now c.args.directory.now c.args.files.now in
+    let s = files_in c.args.store.now c.args.files in
     let ns = c.args.numbers.now in
     let i = c.loop-number.number-index in
     let p = err_from_is_err_and c.from_residual.result c.from_residual.ensures.1 in
@@ -23,7 +23,7 @@ returns-in_err-held c =
 pub loop-number-preserved : goal.loop-number-preserved
 unfolding rows_held
 loop-number-preserved c =
-    let s = files_of c.args.store.now c.args.directory.now c.args.files.now in
+    let s = files_in c.args.store.now c.args.files in
     let ns = c.args.numbers.now in
     let i = c.loop-number.number-index in
     let held = c.in_ok-held.ensures in
@@ -35,5 +35,5 @@ loop-number-preserved c =
 pub returns : goal.returns
 unfolding rows_held
 returns c =
-    let s = files_of c.args.store.now c.args.directory.now c.args.files.now in
+    let s = files_in c.args.store.now c.args.files in
     gather_end (rows_found s) DamagedFile (vec_items c.loop-number.rows) _ _ c.loop-number.invariant (drop_all c.loop-number.number-index c.args.numbers.now (omega arith))

@@ -15,14 +15,14 @@ use Rattle.writers.proofs.Table.look.Goals.{then-not-is_kept-via-then-not-is_kep
 pub returns-in_err-index : goal.returns-in_err-index
 returns-in_err-index c d fs =
     let p = err_from_is_err_and c.from_residual.result c.from_residual.ensures.1 in
-    rw (p.1, p.2, c.in_err-index.ensures.0) (look_nobody c.args.writer (memory_of c.args.self.now d fs c.args.ends.now c.args.log.now) c.in_err-index.ensures.1)
+    rw (p.1, p.2, c.in_err-index.ensures.0) (look_nobody c.args.writer (memory_of c.args.self.now d fs c.args.log.ends.now c.args.log.bytes.now) c.in_err-index.ensures.1)
 
 pub returns-in_default : goal.returns-in_default
 returns-in_default c d fs =
     let t = c.args.self.now in
     let w = c.args.writer in
-    let es = c.args.ends.now in
-    let l = c.args.log.now in
+    let es = c.args.log.ends.now in
+    let l = c.args.log.bytes.now in
     let x = c.index-self-index.result in
     let f : Found t w c.in_ok-index.index c.index-self-index.result Idle = record { at = c.in_ok-index.ensures.0; below = c.in_ok-index.ensures.1; within = search rules; read = c.in_default.is } in
     ap (λ (m : Memory). (refused (IdleWriter w), m)) (memory_still f d fs es l _ (ap held_by c.in_default.is)) ∙ look_idle w (memory_of t d fs es l) (found_there f) (found_held f)
@@ -31,8 +31,8 @@ pub returns-then-not-is_kept : goal.returns-then-not-is_kept
 returns-then-not-is_kept c d fs =
     let t = c.args.self.now in
     let w = c.args.writer in
-    let es = c.args.ends.now in
-    let l = c.args.log.now in
+    let es = c.args.log.ends.now in
+    let l = c.args.log.bytes.now in
     let m = memory_of t d fs es l in
     let draft = c.in-Ready.draft in
     let p = pending_of draft in
@@ -52,8 +52,8 @@ pub returns-in_err-conflict_since : goal.returns-in_err-conflict_since
 returns-in_err-conflict_since c d fs =
     let t = c.args.self.now in
     let w = c.args.writer in
-    let es = c.args.ends.now in
-    let l = c.args.log.now in
+    let es = c.args.log.ends.now in
+    let l = c.args.log.bytes.now in
     let m = memory_of t d fs es l in
     let draft = c.in-Ready.draft in
     let p = pending_of draft in
@@ -68,8 +68,8 @@ pub returns : goal.returns
 returns c d fs =
     let t = c.args.self.now in
     let w = c.args.writer in
-    let es = c.args.ends.now in
-    let l = c.args.log.now in
+    let es = c.args.log.ends.now in
+    let l = c.args.log.bytes.now in
     let m = memory_of t d fs es l in
     let draft = c.in-Ready.draft in
     let p = pending_of draft in

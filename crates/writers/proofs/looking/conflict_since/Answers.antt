@@ -17,7 +17,7 @@ use Rattle.std.specs.Ordering.{nat_cmp}
 pub returns-in_default : goal.returns-in_default
 returns-in_default c =
     let mine = change_of c.args.mine.now in
-    let l = log_of c.args.store.now c.args.ends.now c.args.log.now in
+    let l = log_of c.args.store.now c.args.log.ends.now c.args.log.bytes.now in
     let k = c.loop-place.place in
     among_damaged mine l c.entries-place-end.result k _ c.loop-place.invariant.1 (omega arith) (under_none c.in_ok-entry.field-0 (entry_under l k) c.in_ok-entry.ensures c.in_default.is)
     ∙ ap (λ n. conflict_among mine l (n - c.args.looked) c.args.looked) c.entries-place-end.ensures
@@ -32,7 +32,7 @@ loop-number-preserved c =
 pub loop-place-preserved-in_default-span : goal.loop-place-preserved-in_default-span
 loop-place-preserved-in_default-span c =
     let mine = change_of c.args.mine.now in
-    let l = log_of c.args.store.now c.args.ends.now c.args.log.now in
+    let l = log_of c.args.store.now c.args.log.ends.now c.args.log.bytes.now in
     let k = c.loop-place.place in
     let x = entry_of c.in-Some.entry in
     let taken = c.in_ok-taken.taken in
@@ -44,7 +44,7 @@ loop-place-preserved-in_default-span c =
 pub loop-place-preserved : goal.loop-place-preserved
 loop-place-preserved c =
     let mine = change_of c.args.mine.now in
-    let l = log_of c.args.store.now c.args.ends.now c.args.log.now in
+    let l = log_of c.args.store.now c.args.log.ends.now c.args.log.bytes.now in
     let k = c.loop-place.place in
     let x = entry_of c.in-Some.entry in
     let keys = c.in-Some-span.keys in
@@ -58,7 +58,7 @@ loop-place-preserved c =
 pub returns : goal.returns
 returns c =
     let mine = change_of c.args.mine.now in
-    let l = log_of c.args.store.now c.args.ends.now c.args.log.now in
+    let l = log_of c.args.store.now c.args.log.ends.now c.args.log.bytes.now in
     let k = c.loop-place.place in
     let end = c.entries-place-end.result in
     let taken = c.in_ok-taken.taken in

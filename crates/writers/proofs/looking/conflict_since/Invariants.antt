@@ -17,5 +17,5 @@ invariant-loop-added l = any (λ a. overlap l.keys a.keys) (drop l.added-index l
 abbrev pub invariant-loop-place : goal.invariant-loop-place
 invariant-loop-place l =
     let mine = change_of l.mine in
-    let log = log_of l.store l.ends l.log in
+    let log = log_of l.store l.log.ends.now l.log.bytes.now in
     (l.span ≡ span_of l.mine.action) × (conflict_among mine log (l.place-end - l.place) l.place ≡ conflict_among mine log (l.place-end - l.looked) l.looked)
