@@ -1,11 +1,11 @@
 -- Laws of the files that a version has.
 use Rattle.std.proofs.Common.{◌≡◌, ℕ, ◌+◌, ◌≤◌, List, [], ◌∷◌, ◌++◌, length, take, drop, sym, refl, ap, ◌∙◌, arith}
+use Rattle.std.proofs.lemmas.List.Concat.{flat_map-append}
 use Rattle.std.proofs.lemmas.List.{length_push, take_all, take-take, take-append-le, take-append-drop}
 use Rattle.std.proofs.lemmas.Bool.Decides.{nat_tests}
 use Rattle.codec.specs.Entries.{TableChange}
 use Rattle.versions.specs.Alive.{minus, numbers, after, alive, version}
 use Rattle.versions.specs.VersionLaws.{all_added, all_taken, tally, VersionsAreFixed, FilesStayUntilTaken}
-use Rattle.versions.proofs.ListLaws.{joined_append}
 use Rattle.versions.proofs.Tallies.{tally_none, tally_append, has_tally, has_not, tally_has, tally_has_not, minus_in, minus_out, minus_less}
 
 -- how often a number is live after a change
@@ -23,7 +23,7 @@ unfolding alive
 alive_one cs c live = alive_append cs (c ∷ []) live
 
 pub added_append : (n : ℕ) (cs ds : List TableChange) → tally n (all_added (cs ++ ds)) ≡ tally n (all_added cs) + tally n (all_added ds)
-added_append n cs ds = ap (tally n) (joined_append (λ c. numbers c.adds) cs ds) ∙ tally_append n (all_added cs) (all_added ds)
+added_append n cs ds = ap (tally n) (flat_map-append (λ c. numbers c.adds) cs ds) ∙ tally_append n (all_added cs) (all_added ds)
 
 pub added_one : (n : ℕ) (cs : List TableChange) (c : TableChange) → tally n (all_added (cs ++ c ∷ [])) ≡ tally n (all_added cs) + tally n (numbers c.adds)
 added_one n cs c = omega (arith, added_append n cs (c ∷ []), tally_append n (numbers c.adds) [], tally_none n)

@@ -1,5 +1,6 @@
 -- Laws of the rows that files hold.
 use Rattle.std.proofs.Common.{◌≡◌, ℕ, ◌≤◌, true, eqb, List, [], ◌∷◌, ◌++◌, sum_by, sym, refl, ◌∙◌, subst, arith}
+use Rattle.std.proofs.lemmas.List.Concat.{flat_map-append}
 use Rattle.std.proofs.lemmas.List.Sums.{sum_by-cons}
 use Rattle.std.proofs.lemmas.Bool.{eqb-true, eq-eqb, false≢true, or_left, or_right}
 use Rattle.std.proofs.lemmas.Bool.Decides.{nat_tests}
@@ -13,7 +14,7 @@ use Rattle.versions.specs.Contents.{there, all_there, rows_under, rows_by, rows_
 use Rattle.versions.specs.VersionLaws.{tally, Faithful, RowsAreOfTheirFiles}
 use Rattle.versions.proofs.Tallies.{tally_append, tally_head, tally_tail, tally_has, every_tally, tally_every, minus_in, minus_out, minus_less}
 use Rattle.versions.proofs.AliveLaws.{after_tally}
-use Rattle.versions.proofs.ListLaws.{joined_append, any_append}
+use Rattle.versions.proofs.ListLaws.{any_append}
 
 -- rows depend only on the files that are asked for
 pub rows_agree : (f g : ℕ → List Row) (ns : List ℕ) → ((n : ℕ) → 1 ≤ tally n ns → f n ≡ g n) → rows_by f ns ≡ rows_by g ns
@@ -40,7 +41,7 @@ rows_by_alike contents xs ys h r =
 pub parted : (contents : ℕ → List Row) (live takes : List ℕ) → ((n : ℕ) → tally n live ≤ 1) → ((n : ℕ) → tally n takes ≤ tally n live)
     → Alike (rows_by contents live) (rows_by contents (minus live takes) ++ rows_by contents takes)
 parted contents live takes once less =
-    subst (Alike (rows_by contents live)) (joined_append contents (minus live takes) takes) (rows_by_alike contents live (minus live takes ++ takes) same)
+    subst (Alike (rows_by contents live)) (flat_map-append contents (minus live takes) takes) (rows_by_alike contents live (minus live takes ++ takes) same)
   where
     same : (n : ℕ) → tally n live ≡ tally n (minus live takes ++ takes)
     same n =

@@ -1,5 +1,6 @@
 -- When a change does its order at the files of a version, and that it still does after changes that are not in conflict with it.
 use Rattle.std.proofs.Common.{◌≡◌, ℕ, ◌+◌, ◌≤◌, false, List, [], ◌∷◌, ◌++◌, sym, refl, ap, ◌∙◌, subst, append_assoc, arith}
+use Rattle.std.proofs.lemmas.List.Concat.{flat_map-append}
 use Rattle.std.proofs.lemmas.Bool.{or_parts}
 use Rattle.std.proofs.lemmas.Bool.Decides.{nat_tests}
 use Rattle.rows.specs.declared.row.Row.{Row}
@@ -16,7 +17,6 @@ use Rattle.versions.specs.Conflicts.{shares, reaches, misses, conflict, any_conf
 use Rattle.versions.specs.Contents.{rows_by}
 use Rattle.versions.specs.Plans.{action_of}
 use Rattle.versions.specs.VersionLaws.{tally, Keyed, AllKeyed}
-use Rattle.versions.proofs.ListLaws.{joined_append}
 use Rattle.versions.proofs.Tallies.{tally_none, tally_head, tally_tail, tally_cases, minus_in, minus_out, minus_less, shares_not}
 use Rattle.versions.proofs.AliveLaws.{after_tally}
 use Rattle.versions.proofs.ContentLaws.{parted}
@@ -109,7 +109,7 @@ module _ (contents : ℕ → List Row) (live : List ℕ) (o : Order) (c : TableC
   pub put_alike : Alike (rows_by contents (after live c)) (done_to o (rows_by contents live))
   put_alike =
       subst (λ z. Alike z (done_to o (rows_by contents live)))
-      (sym (joined_append contents (minus live c.takes) (numbers c.adds) ∙ ap (λ z. rows_by contents (minus live c.takes) ++ z) f.made))
+      (sym (flat_map-append contents (minus live c.takes) (numbers c.adds) ∙ ap (λ z. rows_by contents (minus live c.takes) ++ z) f.made))
       (done_spared contents live c.takes once f.inside o f.spared)
 
   pub put_touched : c.touched ≡ touched o (rows_by contents live)

@@ -2,6 +2,7 @@
 use Rattle.std.proofs.Common.{◌≡◌, ℕ, ◌+◌, ◌<◌, ◌≤◌, Bool, true, false, cond, ◌&&◌, ltb, leb, List, [], ◌∷◌, ◌++◌, map, length, take, drop, filter, sym, refl, ap, ◌∙◌, subst, append-nil, add-zero, arith}
 use Rattle.std.specs.List.{flat_map, AllByRecursion}
 use Rattle.std.proofs.ByRecursion.{All-append, All-take, All-drop}
+use Rattle.std.proofs.lemmas.List.Concat.{flat_map-append}
 use Rattle.std.proofs.lemmas.Bool.Decides.{nat_tests}
 use Rattle.rows.specs.declared.row.Row.{Row}
 use Rattle.rows.specs.declared.span.Span.{Span}
@@ -15,7 +16,7 @@ use Rattle.versions.specs.Alive.{numbers, version}
 use Rattle.versions.specs.Contents.{rows_under, rows_by, rows_of}
 use Rattle.versions.specs.Plans.{Plan, file_if, holds_key, with_file, anew, small_files, packed, plan, action_of, added, planned}
 use Rattle.versions.specs.VersionLaws.{tally, Faithful, Keyed, PlanCarriesOver}
-use Rattle.versions.proofs.ListLaws.{joined_append, all_left, all_right}
+use Rattle.versions.proofs.ListLaws.{all_left, all_right}
 use Rattle.versions.proofs.Tallies.{tally_none, tally_cons, tally_head, tally_tail, tally_kept, kept_less}
 use Rattle.versions.proofs.AliveLaws.{version_on, live_once}
 use Rattle.versions.proofs.ContentLaws.{rows_agree, Whole, there_whole, faithful_rows, whole_rows}
@@ -135,7 +136,7 @@ module _ (change : List Row → List Row) (s : Span) (v : ℕ) (fs : List File) 
     anew_rows n (m ∷ ms) =
         let new = file_if n v (change (rows_under m fs)) in
         let p = anew change s (n + length new) v ms fs in
-        let all = joined_append (λ f. f.rows) new p.new in
+        let all = flat_map-append (λ f. f.rows) new p.new in
         let first = file_if_rows n v (change (rows_under m fs)) in
         let rest = anew_rows (n + length new) ms in
         let both = over (rows_under m fs) (rows_of p.takes fs) in
