@@ -11,7 +11,8 @@ use Rattle.store.specs.declared.header.Header.{Header}
 use Rattle.store.specs.Export.{Appends, slots_of, file_of_slot, files_below, files_held, entry_held, entries_below, entries_held, counted, numbered, header_words, header_of, exported}
 use Rattle.store.specs.Log.{Log}
 use Rattle.store.specs.Putting.{Files}
-use Rattle.store.specs.Slots.{free_below}
+use Rattle.store.specs.Slots.{free_below, mark_at, slot_bytes}
+use Rattle.std.proofs.lemmas.Bool.{eq-eqb, ne_eqb}
 
 -- bytes behind bytes that were appended
 pub appends_then : {A : Type 0} (r : Result A Refusal) (a m after bs cs : List ℕ) → m ≡ a ++ bs → Appends r m after cs → Appends r a after (bs ++ cs)
@@ -30,6 +31,19 @@ joined_append f (x ∷ xs) ys = ap (λ l. f x ++ l) (joined_append f xs ys) ∙ 
 turn : {X : Type 0} (f : X → List ℕ) (xs ys zs : List X) (a old new : List ℕ) → zs ≡ xs ++ ys → old ≡ a ++ flat_map f xs → new ≡ old ++ flat_map f ys → new ≡ a ++ flat_map f zs
 turn f xs ys zs a old new z e h =
     h ∙ ap (λ l. l ++ flat_map f ys) e ∙ append_assoc a (flat_map f xs) (flat_map f ys) ∙ ap (λ l. a ++ l) (sym (joined_append f xs ys) ∙ ap (flat_map f) (sym z))
+
+-- what a slot adds: its file, or nothing where it is free
+module _ (s : Files) (i : ℕ) (old new : List ℕ) (m : ℕ) (e : m ≡ mark_at s.directory i) where
+  pub slot_written : (bs : List ℕ) → 0 < m → bs ≡ slot_bytes s.most s.directory s.bytes i → new ≡ old ++ numbered (m - 1, bs) → new ≡ old ++ flat_map numbered (file_of_slot s i)
+  slot_written bs h b n =
+      n ∙ ap (λ l. old ++ l)
+      ((λ j. numbered (e j - 1, b j)) ∙ sym (append-nil (numbered (mark_at s.directory i - 1, slot_bytes s.most s.directory s.bytes i)))
+      ∙ ap (λ t. flat_map numbered (cond t [] ((mark_at s.directory i - 1, slot_bytes s.most s.directory s.bytes i) ∷ []))) (sym (ne_eqb (mark_at s.directory i) 0 (λ z. omega (arith, e, h, z)))))
+
+  pub slot_passed : m ≤ 0 → new ≡ old → new ≡ old ++ flat_map numbered (file_of_slot s i)
+  slot_passed h n =
+      n ∙ sym (append-nil old)
+      ∙ ap (λ t. old ++ flat_map numbered (cond {A = List (ℕ × List ℕ)} t [] ((mark_at s.directory i - 1, slot_bytes s.most s.directory s.bytes i) ∷ []))) (sym (eq-eqb (mark_at s.directory i) 0 (omega (arith, e, h))))
 
 pub files_turn : (s : Files) (i : ℕ) (a old new : List ℕ) → old ≡ a ++ flat_map numbered (files_below s i) → new ≡ old ++ flat_map numbered (file_of_slot s i) → new ≡ a ++ flat_map numbered (files_below s (i + 1))
 files_turn s i a old new e h = turn numbered (files_below s i) (file_of_slot s i) (files_below s (i + 1)) a old new (ap (files_below s) (add-one i)) e h

@@ -1,7 +1,7 @@
 -- Slots of a directory, one by one.
-use Rattle.std.proofs.Common.{◌≡◌, ℕ, zero, suc, ◌+◌, ◌*◌, ◌/◌, ◌<◌, ◌≤◌, Bool, true, false, cond, eqb, leb, List, [], length, get_or, take, drop, set, Some, None, Option, sym, refl, ap, ◌∙◌, mul-le-mul_right, div-mul-le_self, add-one, arith}
+use Rattle.std.proofs.Common.{◌≡◌, ℕ, zero, suc, ◌+◌, ◌-◌, ◌*◌, ◌/◌, ◌<◌, ◌≤◌, Bool, true, false, cond, eqb, leb, List, [], length, get_or, take, drop, set, Some, None, Option, sym, refl, ap, ◌∙◌, mul-le-mul_right, div-mul-le_self, add-one, arith}
 use Rattle.std.proofs.lemmas.List.{get_or-set_other, length-drop, length-set, length-take-le}
-use Rattle.std.proofs.lemmas.Bool.{eq-eqb, ne_eqb, leb-true, lt-leb}
+use Rattle.std.proofs.lemmas.Bool.{eq-eqb, ne_eqb, leb-true, le-leb, lt-leb}
 use Rattle.std.specs.Option.{option_map}
 use Rattle.rows.specs.Checks.{some_else}
 use Rattle.codec.specs.declared.file.Head.{Head}
@@ -63,6 +63,17 @@ module _ (d : List ℕ) (x i : ℕ) (cur : List ℕ) (inv : cur ≡ freed d x i)
   freed_not cur' e f =
       f ∙ inv
       ∙ ap (λ b. cond b (set (freed d x i) (2 * i) 0) (freed d x i)) (sym (ne_eqb (mark_at d i) x (λ q. e (mark_still ∙ q)))) ∙ ap (freed d x) (sym (add-one i))
+
+-- the bytes of a slot, by the length that it says
+module _ (most : ℕ) (d fs : List ℕ) (i n : ℕ) (e : n ≡ length_at d i) where
+  pub slot_overfull : slot_size most < n → [] ≡ slot_bytes most d fs i
+  slot_overfull h = ap (λ b. cond b (take (length_at d i) (drop (i * slot_size most) fs)) []) (sym (lt-leb (length_at d i) (slot_size most) (omega (arith, e, h))))
+
+  pub slot_filled : (start end : ℕ) → start ≡ i * slot_size most → end ≡ start + n → n ≤ slot_size most → take (end - start) (drop start fs) ≡ slot_bytes most d fs i
+  slot_filled start end z f h =
+      let k : end - start ≡ length_at d i = omega (arith, e, f) in
+      ap (λ m. take m (drop start fs)) k ∙ ap (λ m. take (length_at d i) (drop m fs)) z
+      ∙ ap (λ b. cond b (take (length_at d i) (drop (i * slot_size most) fs)) []) (sym (le-leb (length_at d i) (slot_size most) (omega (arith, e, h))))
 
 -- the file of a slot
 pub file_in_nothing : None ≡ file_in []

@@ -1,5 +1,5 @@
 -- What is found, counted and listed of the slots of a directory, as of so many numbers of it.
-use Rattle.std.proofs.Common.{◌≡◌, ℕ, zero, suc, ◌+◌, ◌-◌, ◌*◌, ◌≤◌, cond, eqb, ltb, List, [], ◌∷◌, ◌++◌, length, get_or, take, drop, Some, map, filter, count_by, sym, refl, ap, ◌∙◌, add-one, arith}
+use Rattle.std.proofs.Common.{◌≡◌, ℕ, zero, suc, ◌+◌, ◌-◌, ◌*◌, ◌<◌, ◌≤◌, cond, eqb, ltb, List, [], ◌∷◌, ◌++◌, length, get_or, take, drop, Some, map, filter, count_by, sym, refl, ap, ◌∙◌, add-one, arith}
 use Rattle.std.proofs.lemmas.Bool.{lt-ltb, ne_eqb}
 use Rattle.std.proofs.lemmas.List.{drop-drop, get_or-drop, get_or-take, map-append}
 use Rattle.std.proofs.lemmas.List.Elements.{filter-append}
@@ -7,7 +7,7 @@ use Rattle.std.proofs.lemmas.List.Sums.{sum_by-append}
 use Rattle.std.proofs.lemmas.Iterator.Adapters.{position_from-zero}
 use Rattle.std.specs.List.{position, position_from}
 use Rattle.std.specs.Simd.{first_chunks}
-use Rattle.store.specs.Slots.{slots_in, is_marked, mark_at, first_from, slot_with, free_below, numbers_below}
+use Rattle.store.specs.Slots.{slots_in, is_marked, mark_at, length_at, first_from, slot_with, free_below, numbers_below}
 
 pub length-slots_in : (n : ℕ) (xs : List ℕ) → length (slots_in n xs) ≡ n
 length-slots_in zero xs = refl
@@ -26,6 +26,14 @@ mark_here xs i = let e : 2 * i + 0 ≡ 2 * i = omega arith in get_or-take 2 (dro
 next_slot_at : (xs : List ℕ) (i : ℕ) → drop 2 (drop (2 * i) xs) ≡ drop (2 * (i + 1)) xs
 next_slot_at xs i = let e : 2 * i + 2 ≡ 2 * (i + 1) = omega arith in drop-drop 2 (2 * i) xs ∙ ap (λ k. drop k xs) e
 
+-- a slot by its index
+pub slot_at : (n i j : ℕ) (xs : List ℕ) (d : List ℕ) → i < n → get_or (slots_in n (drop (2 * j) xs)) i d ≡ take 2 (drop (2 * (j + i)) xs)
+slot_at zero i j xs d h = absurd (omega (arith, h))
+slot_at (suc n) zero j xs d h = let e : j ≡ j + 0 = omega arith in ap (λ k. take 2 (drop (2 * k) xs)) e
+slot_at (suc n) (suc i) j xs d h =
+    let e : j + 1 + i ≡ j + suc i = omega arith in
+    ap (λ l. get_or (slots_in n l) i d) (next_slot_at xs j) ∙ slot_at n i (j + 1) xs d (omega (arith, h)) ∙ ap (λ k. take 2 (drop (2 * k) xs)) e
+
 -- one slot more, behind the others
 slots_more : (n i : ℕ) (xs : List ℕ) → slots_in (n + 1) (drop (2 * i) xs) ≡ slots_in n (drop (2 * i) xs) ++ take 2 (drop (2 * (n + i)) xs) ∷ []
 slots_more zero i xs = let e : i ≡ 0 + i = omega arith in ap (λ k. take 2 (drop (2 * k) xs) ∷ []) e
@@ -41,6 +49,16 @@ slots_more (suc n) i xs =
 module _ (xs : List ℕ) where
   more_behind : (n : ℕ) → slots_in (suc n) xs ≡ slots_in n xs ++ take 2 (drop (2 * n) xs) ∷ []
   more_behind n = let e : n + 0 ≡ n = omega arith in ap (λ k. slots_in k xs) (sym (add-one n)) ∙ slots_more n 0 xs ∙ ap (λ k. slots_in n xs ++ take 2 (drop (2 * k) xs) ∷ []) e
+
+  -- the two numbers of a slot
+  module _ (n i : ℕ) (h : i < n) (d : List ℕ) where
+    pub mark_is : get_or (get_or (slots_in n xs) i d) 0 0 ≡ mark_at xs i
+    mark_is = let e : 0 + i ≡ i = omega arith in ap (λ l. get_or l 0 0) (slot_at n i 0 xs d h) ∙ mark_here xs (0 + i) ∙ ap (mark_at xs) e
+
+    pub length_is : get_or (get_or (slots_in n xs) i d) 1 0 ≡ length_at xs i
+    length_is =
+        let e : 2 * (0 + i) + 1 ≡ 1 + 2 * i = omega arith in
+        ap (λ l. get_or l 1 0) (slot_at n i 0 xs d h) ∙ get_or-take 2 (drop (2 * (0 + i)) xs) 1 0 (omega arith) ∙ get_or-drop (2 * (0 + i)) xs 1 0 ∙ ap (λ k. get_or xs k 0) e
 
   -- the first slot with a mark
   position_here : (x n i : ℕ) → position_from (is_marked x) i (slots_in n (drop (2 * i) xs)) ≡ first_from (λ j. eqb (mark_at xs j) x) n i

@@ -73,29 +73,14 @@ fn push_entry(out: &mut Vec<u8>, log: LogMemory<'_>, place: usize) -> Result<(),
 }
 
 impl Store {
-    // Appends the file of a slot, if it is not free.
-    fn push_slot(
-        &self,
-        out: &mut Vec<u8>,
-        files: FileMemory<'_>,
-        slot: usize,
-    ) -> Result<(), Refusal>
-        requires { slot < slot_count self.now files }
-        ensures { Appends result out.old.items out.new.items (flat_map numbered (file_of_slot (files_in self.now files.entry) slot)) }
-    {
-        let mark = files.directory[2 * slot];
-        if mark == 0 {
-            return Ok(());
-        }
-        push_file(out, mark - 1, self.slot_bytes(files, slot))
-    }
-
     // Appends the files, in the order of their slots.
     fn push_files(&self, out: &mut Vec<u8>, files: FileMemory<'_>) -> Result<(), Refusal>
         ensures { Appends result out.old.items out.new.items (flat_map numbered (files_held (files_in self.now files.entry))) }
     {
-        for slot in 0..self.slots(files).len() {
-            self.push_slot(out, files, slot)?;
+        for (slot, [mark, _]) in self.slots(files).iter().enumerate() {
+            if *mark > 0 {
+                push_file(out, mark - 1, self.slot_bytes(files, slot))?;
+            }
         }
         Ok(())
     }
@@ -104,6 +89,7 @@ impl Store {
     fn push_entries(&self, out: &mut Vec<u8>, log: LogMemory<'_>) -> Result<(), Refusal>
         ensures { Appends result out.old.items out.new.items (flat_map counted (entries_held (log_in self.now log.entry))) }
     {
+        // Places are counted: in damaged memory there may be fewer ends than entries.
         for place in 0..self.entries as usize {
             push_entry(out, log, place)?;
         }

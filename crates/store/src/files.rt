@@ -3,7 +3,7 @@ ghost use Rattle.std.specs.Prelude.{◌≡◌, ◌+◌, ◌*◌, ◌<◌, ◌≤
 ghost use Rattle.std.specs.List.{position};
 ghost use Rattle.rows.specs.Refusals.{UnlessOut};
 ghost use Rattle.store.specs.Memory.{slot_count};
-ghost use Rattle.store.specs.Slots.{numbers_below, items_of, slot_size, slots, slots_in, is_marked, slot_with, free_below, room_for, slot_bytes, stored_at, stored, freed};
+ghost use Rattle.store.specs.Slots.{numbers_below, items_of, slot_size, slots, slots_in, is_marked, slot_with, free_below, room_for, slot_bytes, stored, freed};
 
 use crate::Store;
 use crate::limits::NUMBER_LIMIT;
@@ -84,18 +84,18 @@ impl Store {
         ensures { result.now ≡ slot_bytes self.now.most_rows memory.entry.directory.now memory.entry.bytes.now slot }
     {
         let start = self.slot_start(memory, slot);
-        let length = memory.directory[1 + 2 * slot];
+        let [_, length] = self.slots(memory)[slot];
         if length > self.slot_size() as u64 {
             return &[];
         }
         &memory.bytes[start..start + length as usize]
     }
 
-    // The file of a slot; none where it does not decode or bears another number.
-    fn stored_at(&self, memory: FileMemory<'_>, number: u32, slot: usize) -> Option<Stored>
-        requires { slot < slot_count self.now memory }
-        ensures { result ≡ stored_at self.now.most_rows memory.entry.directory.now memory.entry.bytes.now number slot }
+    // The file under a number; none where there is none, or what is there does not decode or bears another number.
+    pub fn file(&self, memory: FileMemory<'_>, number: u32) -> Option<Stored>
+        ensures { result ≡ stored self.now.most_rows memory.entry.directory.now memory.entry.bytes.now number }
     {
+        let slot = self.slot_with(memory, number as u64 + 1)?;
         let bytes = self.slot_bytes(memory, slot);
         let head = read_file(bytes)?;
         if head.number != number {
@@ -106,14 +106,6 @@ impl Store {
             length: bytes.len(),
         };
         Some(Stored { part, head })
-    }
-
-    // The file under a number; none where there is none, or what is there does not decode or bears another number.
-    pub fn file(&self, memory: FileMemory<'_>, number: u32) -> Option<Stored>
-        ensures { result ≡ stored self.now.most_rows memory.entry.directory.now memory.entry.bytes.now number }
-    {
-        let slot = self.slot_with(memory, number as u64 + 1)?;
-        self.stored_at(memory, number, slot)
     }
 
     // Every slot that has a number is free afterwards. The bytes are only counted, so they need not be lent to be written.

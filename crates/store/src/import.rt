@@ -60,6 +60,7 @@ fn read_entries<'a>(
 {
     let mut here = from;
     let mut used = 0;
+    // Entries are counted: they lie one behind the other, each as long as it says.
     for place in 0..count {
         let next = read_place(here, log, place, used)?;
         used += next.at - here.at - 8;
@@ -123,6 +124,7 @@ impl Store {
         ensures bytes { IfOk result (λ to. to.bytes.now ≡ from.entry.bytes.now) }
     {
         let mut here = from;
+        // Files are counted: they lie one behind the other, each as long as it says.
         for slot in 0..count {
             here = self.read_slot(here, files, slot)?;
         }
