@@ -78,3 +78,12 @@ pub range_part : (a b : ℕ) (p : Part) (xs : List ℕ) → a ≡ p.start → b 
 range_part a b p xs e f =
     let long : b - p.start ≡ p.length = omega (arith, f) in
     ap (λ k. take (b - k) (drop k xs)) e ∙ ap (λ k. take k (drop p.start xs)) long
+
+-- a write to the part at a range is a write to the whole
+pub range_put : (a b p : ℕ) (part : Part) (ys xs zs : List ℕ) → a ≡ part.start → b ≡ part.start + part.length → part.start + part.length ≤ length xs → p + length ys ≤ part.length
+    → zs ≡ put_at p ys (take (b - a) (drop a xs)) → put_mid a (b - a) xs zs ≡ put_at (part.start + p) ys xs
+range_put a b p part ys xs zs e f inside room is =
+    part_put a (b - a) p ys xs zs (omega (arith, e, f)) (omega (arith, e, f)) is ∙ ap (λ k. put_at (k + p) ys xs) e
+
+pub length_range : (a b : ℕ) (part : Part) (xs : List ℕ) → a ≡ part.start → b ≡ part.start + part.length → part.start + part.length ≤ length xs → length (take (b - a) (drop a xs)) ≡ part.length
+length_range a b part xs e f inside = ap length (range_part a b part xs e f) ∙ length-take-le part.length (drop part.start xs) (omega (arith, length-drop part.start xs))

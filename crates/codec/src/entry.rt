@@ -203,16 +203,14 @@ pub fn write_entry(entry: &Entry, out: &mut [u8]) -> Option<usize>
 fn added_from(number: u64, from: u64, to: u64) -> Option<Added>
     ensures { result ≡ (if added_fits (added_of number from to) then Some (added_of number from to) else None) }
 {
-    let number = u32::try_from(number).ok()?;
-    let to = u32::try_from(to).ok()?;
-    if from > to as u64 {
-        return None;
-    }
-    let from = from as u32;
-    Some(Added {
-        number,
-        keys: Span { from, to },
-    })
+    let added = Added {
+        number: u32::try_from(number).ok()?,
+        keys: Span {
+            from: u32::try_from(from).ok()?,
+            to: u32::try_from(to).ok()?,
+        },
+    };
+    added.fits().then_some(added)
 }
 
 fn read_adds(heap: Global, words: &[Word]) -> Result<Option<Vec<Added>>, AllocError>

@@ -1,8 +1,8 @@
 // Files written anew from others: one part of the lent memory is read while another is written.
-ghost use Rattle.std.specs.Prelude.{◌≡◌, ◌+◌, ◌*◌, ◌%◌, ◌^◌, ◌≤◌, true, [], ◌∷◌, length, take, is_some, sum, MatchOption};
+ghost use Rattle.std.specs.Prelude.{◌≡◌, ◌+◌, ◌*◌, ◌≤◌, true, [], ◌∷◌, length, is_some, MatchOption};
 ghost use Rattle.codec.specs.Bounds.{every};
 ghost use Rattle.codec.specs.Files.{file_in, row_words};
-ghost use Rattle.codec.specs.Words.{AreWords, put_at, bytes_of, words_of};
+ghost use Rattle.codec.specs.Words.{AreWords, put_at, bytes_of};
 ghost use Rattle.codec.specs.Keys.{keys_of};
 ghost use Rattle.codec.specs.Rewrites.{fate_of, staying, rewritten, lies_in, apart, part_in, rows_in, is_source, source_rows, survey, survey_all, rewrite_done, widened_by};
 
@@ -86,25 +86,6 @@ impl Part {
     {
         self.start..self.start + self.length
     }
-
-    // Writes numbers to the part, from a place of it on.
-    fn put(self, bytes: &mut [u8], k: usize, words: &[u64])
-        requires inside { self.start + self.length ≤ length bytes.old }
-        requires room { 8 * k + 8 * length words.now ≤ self.length }
-        ensures after { bytes.new ≡ put_at (self.start + 8 * k) (bytes_of words.now) bytes.old }
-        ensures fit { AreWords words.now }
-    {
-        put_words(&mut bytes[self.range()], k, words);
-    }
-
-    // Writes the sum of the first n numbers of the part behind them.
-    fn seal(self, bytes: &mut [u8], n: usize)
-        requires inside { self.start + self.length ≤ length bytes.old }
-        requires room { 8 * n + 8 ≤ self.length }
-        ensures { bytes.new ≡ put_at (self.start + 8 * n) (bytes_of ((sum (take n (words_of (part_in self bytes.old))) % 2 ^ 64) ∷ [])) bytes.old }
-    {
-        put_seal(&mut bytes[self.range()], n);
-    }
 }
 
 fn row_words(row: Row) -> [u64; 2]
@@ -172,7 +153,11 @@ impl Rewriting {
         for i in 0..(source.length / 16).saturating_sub(2) {
             if let Some(row) = row_at(&bytes[source.range()], i) {
                 if let Some(row) = self.rewrite.kept(row) {
-                    self.target.put(bytes, 3 + 2 * count, &row_words(row));
+                    put_words(
+                        &mut bytes[self.target.range()],
+                        3 + 2 * count,
+                        &row_words(row),
+                    );
                     count += 1;
                     keys = widened(keys, row.key);
                 }
@@ -225,8 +210,12 @@ pub fn rewrite_files(
     if target.length < length {
         return None;
     }
-    target.put(bytes, 0, &[number as u64, began, count as u64]);
+    put_words(
+        &mut bytes[target.range()],
+        0,
+        &[number as u64, began, count as u64],
+    );
     let keys = rewriting.put_all(bytes, sources);
-    target.seal(bytes, 3 + 2 * count);
+    put_seal(&mut bytes[target.range()], 3 + 2 * count);
     Some(Written { length, keys })
 }
