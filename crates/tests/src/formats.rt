@@ -1,4 +1,5 @@
 // Files and entries as bytes: the ones that docs/FORMATS.md shows, and what is none.
+use crate::given::{AMOUNTS, KEYS, span};
 use codec::action::Action;
 use codec::entry::{Added, Change, Entry, entry_length, read_entry, write_entry};
 use codec::file::{Head, read_file, row_at};
@@ -10,10 +11,6 @@ use rows::span::Span;
 use std::alloc::{AllocError, Global};
 use std::process::Abort;
 use std::test::Fail;
-
-const KEYS: u64 = 4294967296;
-
-const AMOUNTS: u64 = 1099511627776;
 
 // 258 7 2 1 5 70000 1000000 and the sum 1070273.
 const FILE: &[u8; 64] = b"\
@@ -52,10 +49,6 @@ const ENTRY: &[u8; 120] = b"\
     \x70\x11\x01\x00\x00\x00\x00\x00\
     \x03\x00\x00\x00\x00\x00\x00\x00\
     \x28\x13\x01\x00\x00\x00\x00\x00";
-
-fn span(from: u32, to: u32) -> Span {
-    Span { from, to }
-}
 
 // The bytes of numbers and of their sum.
 fn sealed(heap: Global, numbers: &[u64]) -> Result<Vec<u8>, AllocError> {
@@ -202,10 +195,7 @@ fn numbers_of(heap: Global, count: u64) -> Result<Vec<u64>, AllocError> {
 // Whether the rows among these numbers are written as the file that the numbers are.
 fn is_written(heap: Global, numbers: &[u64]) -> Result<bool, AllocError> {
     let bytes = sealed(heap, numbers)?;
-    let mut memory = Vec::new(heap);
-    for _ in 0..bytes.len() {
-        memory.push(0xaa)?;
-    }
+    let mut memory = vec![in heap; 0xaa; bytes.len()]?;
     if numbers.len() < 3 {
         return Ok(false);
     }

@@ -6,6 +6,8 @@ mod applying;
 #[cfg(test)]
 mod formats;
 #[cfg(test)]
+mod given;
+#[cfg(test)]
 mod opening;
 #[cfg(test)]
 mod orders;

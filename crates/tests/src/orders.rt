@@ -1,13 +1,10 @@
 // Orders read from numbers: what each is, and the index of the first number at fault.
+use crate::given::{AMOUNTS, KEYS};
 use rows::order::Order;
 use rows::refusal::Refusal;
 use rows::span::Span;
 use std::alloc::{AllocError, Global};
 use std::test::Fail;
-
-const KEYS: u64 = 4294967296;
-
-const AMOUNTS: u64 = 1099511627776;
 
 // The index at which an order is refused.
 fn fault(numbers: &[u64]) -> Option<u64> {

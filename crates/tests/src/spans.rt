@@ -1,9 +1,6 @@
 // Spans: which keys they have, and which of them overlap.
+use crate::given::span;
 use rows::span::Span;
-
-fn span(from: u32, to: u32) -> Span {
-    Span { from, to }
-}
 
 #[test]
 fn a_span_has_both_its_ends(rt: HostRuntime) {

@@ -1,4 +1,5 @@
 // Stores: full slots, deleted files, entries of the log, and memory that is damaged.
+use crate::given::span;
 use codec::action::Action;
 use codec::entry::{Added, Change, Entry};
 use codec::file::Head;
@@ -12,10 +13,6 @@ use store::Store;
 use store::memory::{FileMemory, FileMemoryMut, LogMemory, LogMemoryMut};
 use store::unput::Unput;
 use store::unread::Unread;
-
-fn span(from: u32, to: u32) -> Span {
-    Span { from, to }
-}
 
 // What is told of a file with these keys that was put.
 fn added(number: u32, keys: Span) -> Result<Added, Unput> {
