@@ -1,9 +1,11 @@
 -- Writes to a part of a list, and what they leave of the other parts.
-use Rattle.std.proofs.Common.{◌≡◌, ℕ, zero, suc, ◌+◌, ◌-◌, ◌≤◌, ◌⊎◌, List, [], ◌∷◌, ◌++◌, length, take, drop, sym, refl, ap, ◌∙◌, inl, inr, zero-add, arith}
+use Rattle.std.proofs.Common.{◌≡◌, ℕ, zero, suc, ◌+◌, ◌-◌, ◌≤◌, Bool, true, false, cond, ◌&&◌, leb, ◌⊎◌, List, [], ◌∷◌, ◌++◌, length, take, drop, Some, None, sym, refl, ap, ◌∙◌, inl, inr, zero-add, arith}
+use Rattle.std.proofs.lemmas.Bool.{or_right, le-leb, leb-true, leb-false, lt-leb}
 use borrow.Rule.Slice.PartMut.{put_mid}
-use Rattle.std.proofs.lemmas.List.{append_assoc, drop_at, drop-drop, drop-take, drop-append-le, length-append, length-drop, length-take-le, take-append-drop, take_at, take-take}
+use Rattle.std.proofs.lemmas.List.{append_assoc, drop_at, drop-drop, drop-append-le, length-append, length-drop, length-take-le, take-append-drop, take_at, take-take}
+use Rattle.std.proofs.Math.Bool.{and-true}
 use Rattle.codec.specs.declared.rewrite.Part.{Part}
-use Rattle.codec.specs.Rewrites.{part_in}
+use Rattle.codec.specs.Rewrites.{lies_in, apart, part_in}
 use Rattle.codec.specs.Words.{put_at}
 use Rattle.codec.proofs.WordLaws.{put_front, read_below}
 
@@ -38,20 +40,6 @@ take_add zero p xs = ap (λ k. take k xs) (zero-add p)
 take_add (suc a) p [] = let e : suc a + p ≡ suc (a + p) = omega arith in ap {B = List ℕ} (λ k. take k []) e ∙ sym (take_nil p)
 take_add (suc a) p (x ∷ xs) = let e : suc a + p ≡ suc (a + p) = omega arith in ap (λ k. take k (x ∷ xs)) e ∙ ap (λ l. x ∷ l) (take_add a p xs)
 
--- a part after a write at its front
-pub part_of_put : (a k : ℕ) (ys xs : List ℕ) → a + k ≤ length xs → length ys ≤ k → take k (drop a (put_at a ys xs)) ≡ put_at 0 ys (take k (drop a xs))
-part_of_put a k ys xs h l =
-    let n : length (take a xs) ≡ a = length-take-le a xs (omega arith) in
-    let D = drop a xs in
-    let j : length ys + (k - length ys) ≡ k = omega arith in
-    ap (take k) (drop_at (take a xs) (ys ++ drop (a + length ys) xs) a n)
-    ∙ ap (λ m. take m (ys ++ drop (a + length ys) xs)) (sym j)
-    ∙ take_add (length ys) (k - length ys) (ys ++ drop (a + length ys) xs)
-    ∙ ap (λ u. u ++ take (k - length ys) (drop (length ys) (ys ++ drop (a + length ys) xs))) (take_at ys (drop (a + length ys) xs) (length ys) refl)
-    ∙ ap (λ u. ys ++ take (k - length ys) u) (drop_at ys (drop (a + length ys) xs) (length ys) refl ∙ sym (drop-drop (length ys) a xs))
-    ∙ ap (λ u. ys ++ u) (sym (drop-take (length ys) (k - length ys) D) ∙ ap (λ m. drop (length ys) (take m D)) j)
-    ∙ sym (put_front ys (take k D))
-
 -- a write to a part is a write to the whole
 pub part_put : (a k p : ℕ) (ys xs zs : List ℕ) → a + k ≤ length xs → p + length ys ≤ k → zs ≡ put_at p ys (take k (drop a xs)) → put_mid a k xs zs ≡ put_at (a + p) ys xs
 part_put a k p ys xs zs h l e =
@@ -73,17 +61,36 @@ part_put a k p ys xs zs h l e =
     ∙ ap (λ l. l ++ (ys ++ drop (p + length ys) D)) (sym start)
     ∙ ap (λ l. take (a + p) xs ++ (ys ++ l)) end
 
--- the part at a range
-pub range_part : (a b : ℕ) (p : Part) (xs : List ℕ) → a ≡ p.start → b ≡ p.start + p.length → take (b - a) (drop a xs) ≡ part_in p xs
-range_part a b p xs e f =
-    let long : b - p.start ≡ p.length = omega (arith, f) in
-    ap (λ k. take (b - k) (drop k xs)) e ∙ ap (λ k. take k (drop p.start xs)) long
+-- memory of three parts: a write to the middle is a write to the whole
+pub middle_put : (before out behind ys : List ℕ) → length ys ≤ length out → before ++ (put_at 0 ys out ++ behind) ≡ put_at (length before) ys (before ++ (out ++ behind))
+middle_put before out behind ys l =
+    let whole = before ++ (out ++ behind) in
+    let front : take (length before) (before ++ (out ++ behind)) ≡ before = take_at before (out ++ behind) (length before) refl in
+    let back : drop (length before + length ys) (before ++ (out ++ behind)) ≡ drop (length ys) out ++ behind =
+    sym (drop-drop (length ys) (length before) whole) ∙ ap (drop (length ys)) (drop_at before (out ++ behind) (length before) refl) ∙ drop-append-le (length ys) out behind l in
+    ap (λ l. before ++ (l ++ behind)) (put_front ys out) ∙ ap (λ l. before ++ l) (append_assoc ys (drop (length ys) out) behind ∙ ap (λ l. ys ++ l) (sym back))
+    ∙ ap (λ l. l ++ (ys ++ drop (length before + length ys) whole)) (sym front)
 
--- a write to the part at a range is a write to the whole
-pub range_put : (a b p : ℕ) (part : Part) (ys xs zs : List ℕ) → a ≡ part.start → b ≡ part.start + part.length → part.start + part.length ≤ length xs → p + length ys ≤ part.length
-    → zs ≡ put_at p ys (take (b - a) (drop a xs)) → put_mid a (b - a) xs zs ≡ put_at (part.start + p) ys xs
-range_put a b p part ys xs zs e f inside room is =
-    part_put a (b - a) p ys xs zs (omega (arith, e, f)) (omega (arith, e, f)) is ∙ ap (λ k. put_at (k + p) ys xs) e
+-- a part of such memory that lies behind the middle
+module _ (before out behind : List ℕ) (p : Part) where
+  abbrev whole : List ℕ
+  whole = before ++ (out ++ behind)
 
-pub length_range : (a b : ℕ) (part : Part) (xs : List ℕ) → a ≡ part.start → b ≡ part.start + part.length → part.start + part.length ≤ length xs → length (take (b - a) (drop a xs)) ≡ part.length
-length_range a b part xs e f inside = ap length (range_part a b part xs e f) ∙ length-take-le part.length (drop part.start xs) (omega (arith, length-drop part.start xs))
+  abbrev middle : Part
+  middle = record { start = length before; length = length out }
+
+  long : length (before ++ (out ++ behind)) ≡ length before + length out + length behind
+  long = omega (arith, length-append before (out ++ behind), length-append out behind)
+
+  pub part_behind : (start : ℕ) → p.start ≡ start + (length before + length out)
+      → cond (leb (start + p.length) (length behind)) (Some (take p.length (drop start behind))) None ≡ cond (lies_in p (length whole) && apart p middle) (Some (part_in p whole)) None
+  part_behind start h =
+      let rest : drop (length before + length out) whole ≡ behind =
+      sym (drop-drop (length out) (length before) whole) ∙ ap (drop (length out)) (drop_at before (out ++ behind) (length before) refl) ∙ drop_at out behind (length out) refl in
+      let same : drop p.start whole ≡ drop start behind = ap (λ k. drop k whole) (omega (arith, h)) ∙ sym (drop-drop start (length before + length out) whole) ∙ ap (drop start) rest in
+      let away : apart p middle ≡ true = or_right (leb (p.start + p.length) (length before)) _ (le-leb (length before + length out) p.start (omega (arith, h))) in
+      rw (away, same, inside (leb (start + p.length) (length behind)) refl, and-true)
+    where
+      inside : (b : Bool) → leb (start + p.length) (length behind) ≡ b → lies_in p (length whole) ≡ leb (start + p.length) (length behind)
+      inside true e = le-leb (p.start + p.length) (length whole) (omega (arith, leb-true _ _ e, long, h)) ∙ sym e
+      inside false e = lt-leb (p.start + p.length) (length whole) (omega (arith, leb-false _ _ e, long, h)) ∙ sym e

@@ -24,6 +24,10 @@ unfolding rewritten
 rewritten_append w [] ys = refl
 rewritten_append w (x ∷ xs) ys = ap (λ l. staying (fate_of w x) ++ l) (rewritten_append w xs ys) ∙ sym (append_assoc (staying (fate_of w x)) (rewritten w xs) (rewritten w ys))
 
+pub rewritten_step : (w : Rewrite) (left rest : List Row) (r : Row) → left ≡ r ∷ rest → rewritten w left ≡ staying (fate_of w r) ++ rewritten w rest
+unfolding rewritten
+rewritten_step w left rest r e = ap (rewritten w) e
+
 pub refuses_append : (w : Rewrite) (xs ys : List Row) → refuses w (xs ++ ys) ≡ (refuses w xs || refuses w ys)
 unfolding refuses
 refuses_append w [] ys = refl
@@ -128,13 +132,9 @@ module _ (w : Rewrite) (rs left rest : List Row) (r : Row) (e : left ≡ r ∷ r
   unfolding refuses
   refuses_step = ap (refuses w) e
 
-  rewritten_step : rewritten w left ≡ staying (fate_of w r) ++ rewritten w rest
-  unfolding rewritten
-  rewritten_step = ap (rewritten w) e
-
   pub count_one : (o : Option Row) (m : ℕ) → fate_of w r ≡ Some o → m ≡ n + length (staying (Some o)) → Counted w rs rest m
   count_one o m f c =
-      let k = ap length (rewritten_step ∙ ap (λ t. staying t ++ rewritten w rest) f) ∙ length-append (staying (Some o)) (rewritten w rest) in
+      let k = ap length (rewritten_step w left rest r e ∙ ap (λ t. staying t ++ rewritten w rest) f) ∙ length-append (staying (Some o)) (rewritten w rest) in
       (ap (λ t. breaks t || refuses w rest) (sym f) ∙ sym refuses_step ∙ inv.0, omega (arith, k, inv.1), omega (arith, ap length e, staying_few o, c, inv.2))
 
   pub count_breaks : (there : Bool) → fate_of w r ≡ None → None ≡ survey w there rs

@@ -28,15 +28,22 @@ survey_none w there rs e = by there (refuses w rs) e
     by true false p = absurd (let z : ◌≡◌ {A = ℕ} 0 1 = cc in omega arith)
     by false r p = inl refl
 
-pub survey_absent : (w : Rewrite) (there : Bool) (rs : List Row) → there ≡ false → None ≡ survey w there rs
-survey_absent w there rs e = ap (λ t. cond (t && not (refuses w rs)) (Some (length (rewritten w rs))) None) (sym e)
+-- the bytes of a part that lies apart from the target
+pub part_there : (xs : List ℕ) (t p : Part) (bs : List ℕ) → Some bs ≡ cond (lies_in p (length xs) && apart p t) (Some (part_in p xs)) None → (is_source xs t p ≡ is_some (file_in (part_in p xs))) × (bs ≡ part_in p xs)
+part_there xs t p bs e = by (lies_in p (length xs)) (apart p t) e
+  where
+    by : (a b : Bool) → Some bs ≡ cond (a && b) (Some (part_in p xs)) None → ((a && (b && is_some (file_in (part_in p xs)))) ≡ is_some (file_in (part_in p xs))) × (bs ≡ part_in p xs)
+    by true true q = (refl, cc)
+    by true false q = absurd (let z : ◌≡◌ {A = ℕ} 0 1 = cc in omega arith)
+    by false b q = absurd (let z : ◌≡◌ {A = ℕ} 0 1 = cc in omega arith)
 
-pub part_surveyed : (w : Rewrite) (xs lent : List ℕ) (t p : Part) (o : Option ℕ) → lent ≡ part_in p xs → true ≡ lies_in p (length xs) → true ≡ apart p t
-    → o ≡ survey w (is_some (file_in lent)) (rows_in lent) → o ≡ survey w (is_source xs t p) (rows_in (part_in p xs))
-part_surveyed w xs lent t p o e a b f =
-    f ∙ ap (λ l. survey w (is_some (file_in l)) (rows_in l)) e
-    ∙ ap (λ c. survey w (c && is_some (file_in (part_in p xs))) (rows_in (part_in p xs))) b
-    ∙ ap (λ c. survey w (c && (apart p t && is_some (file_in (part_in p xs)))) (rows_in (part_in p xs))) a
+pub part_absent : (xs : List ℕ) (t p : Part) → ◌≡◌ {A = Option (List ℕ)} None (cond (lies_in p (length xs) && apart p t) (Some (part_in p xs)) None) → is_source xs t p ≡ false
+part_absent xs t p e = by (lies_in p (length xs)) (apart p t) e
+  where
+    by : (a b : Bool) → ◌≡◌ {A = Option (List ℕ)} None (cond (a && b) (Some (part_in p xs)) None) → (a && (b && is_some (file_in (part_in p xs)))) ≡ false
+    by true true q = absurd (let z : ◌≡◌ {A = ℕ} 0 1 = cc in omega arith)
+    by true false q = refl
+    by false b q = refl
 
 -- a survey of all sources, so far
 abbrev pub Surveyed : Rewrite → List ℕ → Part → List Part → ℕ → ℕ → Type 0

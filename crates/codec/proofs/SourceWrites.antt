@@ -1,24 +1,36 @@
--- All sources written to the target, one behind the other, and the file that this makes.
-use Rattle.std.proofs.Common.{◌≡◌, ℕ, ◌+◌, ◌*◌, ◌^◌, ◌<◌, ◌≤◌, true, ◌&&◌, List, [], ◌∷◌, ◌++◌, length, get_or, take, drop, is_some, sym, refl, ap, ◌∙◌, subst, arith}
-use Rattle.std.proofs.ByRecursion.{All-append}
-use Rattle.std.proofs.lemmas.List.{flat_map_more, length-append, length-drop, length-take-le, take_all, take-append-drop, take_more}
-use Rattle.std.proofs.lemmas.Bool.{and_parts, and_from}
+-- The sources while the target is written: they stay as they are, and their rows are written one source behind the other.
+use Rattle.std.proofs.Common.{◌≡◌, ℕ, ◌+◌, ◌<◌, ◌≤◌, Bool, true, false, cond, ◌&&◌, leb, ◌⊎◌, List, [], ◌∷◌, ◌++◌, length, get_or, drop, is_some, Some, None, Option, sym, refl, ap, ◌∙◌, inl, inr, arith}
+use Rattle.std.proofs.lemmas.List.{at_drop_more}
+use Rattle.std.proofs.lemmas.Bool.{and_parts, and_from, leb-true, or_cases}
 use Rattle.rows.specs.declared.row.Row.{Row}
-use Rattle.rows.specs.declared.span.Span.{Span}
 use Rattle.codec.specs.declared.rewrite.Part.{Part}
 use Rattle.codec.specs.declared.rewrite.Rewrite.{Rewrite}
 use Rattle.codec.specs.Bounds.{every}
-use Rattle.codec.specs.Files.{file_in, row_words}
+use Rattle.codec.specs.Files.{file_in, rows_from}
 use Rattle.codec.specs.Keys.{keys_of}
 use Rattle.codec.specs.Rewrites.{rewritten, lies_in, apart, part_in, rows_in, is_source, source_rows, widened_by}
-use Rattle.codec.specs.Words.{AreWords, put_at, bytes_of}
+use Rattle.codec.specs.Words.{put_at}
 use Rattle.codec.proofs.BoundLaws.{every_at}
-use Rattle.codec.proofs.FileLaws.{length_row_words, row_words_append}
 use Rattle.codec.proofs.KeyLaws.{keys_push}
 use Rattle.codec.proofs.PartLaws.{read_apart}
-use Rattle.codec.proofs.RewriteLaws.{rewritten_append}
-use Rattle.codec.proofs.RowWrites.{source}
-use Rattle.codec.proofs.WordLaws.{length_bytes_of, length_put_at, put_none, put_on}
+use Rattle.codec.proofs.RewriteLaws.{rewritten_append, rows_from_there}
+use Rattle.codec.proofs.SourceLaws.{part_there, part_absent}
+use Rattle.codec.proofs.WordLaws.{length_put_at}
+
+-- a source, fact by fact
+record Source (xs : List ℕ) (t p : Part) : Type 0 where
+  pub inside : p.start + p.length ≤ length xs
+  pub away : (p.start + p.length ≤ t.start) ⊎ (t.start + t.length ≤ p.start)
+
+source : (xs : List ℕ) (t p : Part) → is_source xs t p ≡ true → Source xs t p
+source xs t p e =
+    let a = and_parts (lies_in p (length xs)) _ e in
+    let b = and_parts (apart p t) _ a.1 in
+    record { inside = leb-true _ _ a.0; away = go (or_cases (leb (p.start + p.length) t.start) (leb (t.start + t.length) p.start) b.0) }
+  where
+    go : (leb (p.start + p.length) t.start ≡ true) ⊎ (leb (t.start + t.length) p.start ≡ true) → (p.start + p.length ≤ t.start) ⊎ (t.start + t.length ≤ p.start)
+    go (inl h) = inl (leb-true _ _ h)
+    go (inr h) = inr (leb-true _ _ h)
 
 -- a write inside the target leaves the sources
 module _ (B : List ℕ) (t : Part) (at : ℕ) (ys cur : List ℕ) (low : t.start ≤ at) (high : at + length ys ≤ t.start + t.length) (inside : t.start + t.length ≤ length B) (e : cur ≡ put_at at ys B) where
@@ -39,7 +51,7 @@ module _ (B : List ℕ) (t : Part) (at : ℕ) (ys cur : List ℕ) (low : t.start
       let r = same_sources ps a.1 in
       (and_from _ _ (same_source p a.0) r.0, ap (λ l. rows_in l ++ source_rows cur ps) (same_part p a.0) ∙ ap (λ l. rows_in (part_in p B) ++ l) r.1)
 
-pub keys_append : (rs ss : List Row) → keys_of (rs ++ ss) ≡ widened_by (keys_of rs) ss
+keys_append : (rs ss : List Row) → keys_of (rs ++ ss) ≡ widened_by (keys_of rs) ss
 keys_append rs [] = ap keys_of (append_none rs)
   where
     append_none : (l : List Row) → l ++ [] ≡ l
@@ -47,77 +59,21 @@ keys_append rs [] = ap keys_of (append_none rs)
     append_none (x ∷ l) = ap (λ z. x ∷ z) (append_none l)
 keys_append rs (s ∷ ss) = ap keys_of (sym (Rattle.std.proofs.lemmas.List.append_assoc rs (s ∷ []) ss)) ∙ keys_append (rs ++ s ∷ []) ss ∙ ap (λ k. widened_by k ss) (keys_push rs s)
 
-sources_more : (B : List ℕ) (ps : List Part) (i : ℕ) (d : Part) → i < length ps → source_rows B (take (i + 1) ps) ≡ source_rows B (take i ps) ++ rows_in (part_in (get_or ps i d) B)
-sources_more B ps i d h = ap (source_rows B) (take_more ps i d h) ∙ sym (flat_map_more (λ p. rows_in (part_in p B)) [] (take i ps) (get_or ps i d))
+pub keys_widened : (rs : List Row) → keys_of rs ≡ widened_by (keys_of []) rs
+keys_widened rs = keys_append [] rs
 
-sources_append : (B : List ℕ) (ps qs : List Part) → source_rows B (ps ++ qs) ≡ source_rows B ps ++ source_rows B qs
-sources_append B [] qs = refl
-sources_append B (p ∷ ps) qs = ap (λ l. rows_in (part_in p B) ++ l) (sources_append B ps qs) ∙ sym (Rattle.std.proofs.lemmas.List.append_assoc (rows_in (part_in p B)) (source_rows B ps) (source_rows B qs))
+-- one source more
+module _ (w : Rewrite) (xs : List ℕ) (t : Part) (ps : List Part) (valid : every (is_source xs t) ps ≡ true) (i : ℕ) (d : Part) (h : i < length ps) where
+  there : is_source xs t (get_or ps i d) ≡ true
+  there = every_at (is_source xs t) ps i d valid h
 
-abbrev pub AllSoFar : Rewrite → List ℕ → Part → List Part → ℕ → List ℕ → ℕ → Span → Type 0
-AllSoFar w B t ps i cur n keys =
-    let rs = rewritten w (source_rows B (take i ps)) in
-    (cur ≡ put_at (t.start + 24) (bytes_of (row_words rs)) B) × (n ≡ length rs) × (keys ≡ keys_of rs) × AreWords (row_words rs) × (length cur ≡ length B)
+  pub source_not_there : ◌≡◌ {A = Option (List ℕ)} None (cond (lies_in (get_or ps i d) (length xs) && apart (get_or ps i d) t) (Some (part_in (get_or ps i d) xs)) None) → ⊥
+  source_not_there e = let z : ◌≡◌ {A = Bool} false true = sym (part_absent xs t (get_or ps i d) e) ∙ there in absurd (let y : ◌≡◌ {A = ℕ} 0 1 = cc in omega arith)
 
-module _ (w : Rewrite) (B : List ℕ) (t : Part) (ps : List Part) (inside : t.start + t.length ≤ length B) (valid : every (is_source B t) ps ≡ true)
-    (room : 8 * (4 + 2 * length (rewritten w (source_rows B ps))) ≤ t.length) where
-  abbrev done : ℕ → List Row
-  done i = rewritten w (source_rows B (take i ps))
-
-  pub all_start : AllSoFar w B t ps 0 B 0 (keys_of [])
-  unfolding rewritten
-  all_start = (put_none (t.start + 24) B, refl, refl, tt, refl)
-
-  part_of_all : (i : ℕ) → length (rewritten w (source_rows B (take i ps))) ≤ length (rewritten w (source_rows B ps))
-  part_of_all i =
-      let all : rewritten w (source_rows B ps) ≡ rewritten w (source_rows B (take i ps)) ++ rewritten w (source_rows B (drop i ps)) =
-      ap (λ l. rewritten w (source_rows B l)) (sym (take-append-drop i ps)) ∙ ap (rewritten w) (sources_append B (take i ps) (drop i ps)) ∙ rewritten_append w (source_rows B (take i ps)) (source_rows B (drop i ps)) in
-      omega (arith, ap length all, length-append (done i) (rewritten w (source_rows B (drop i ps))))
-
-  module _ (i : ℕ) (cur : List ℕ) (n : ℕ) (keys : Span) (inv : AllSoFar w B t ps i cur n keys) where
-    module _ (d : Part) (h : i < length ps) where
-      abbrev p : Part
-      p = get_or ps i d
-
-      abbrev new : List Row
-      new = rewritten w (rows_in (part_in (get_or ps i d) B))
-
-      here : is_source B t (get_or ps i d) ≡ true
-      here = every_at (is_source B t) ps i d valid h
-
-      few : length (bytes_of (row_words (rewritten w (source_rows B (take i ps))))) + 32 ≤ t.length
-      few = omega (arith, length_bytes_of (row_words (done i)), length_row_words (done i), part_of_all i)
-
-      part_as_was : part_in (get_or ps i d) cur ≡ part_in (get_or ps i d) B
-      part_as_was = same_part B t (t.start + 24) (bytes_of (row_words (done i))) cur (omega arith) (omega (arith, few)) inside inv.0 p here
-
-      pub all_valid : is_source cur t (get_or ps i d) ≡ true
-      all_valid = same_source B t (t.start + 24) (bytes_of (row_words (done i))) cur (omega arith) (omega (arith, few)) inside inv.0 p here
-
-      longer : rewritten w (source_rows B (take (i + 1) ps)) ≡ rewritten w (source_rows B (take i ps)) ++ rewritten w (rows_in (part_in (get_or ps i d) B))
-      longer = ap (rewritten w) (sources_more B ps i d h) ∙ rewritten_append w (source_rows B (take i ps)) (rows_in (part_in p B))
-
-      pub all_room : 8 * (4 + 2 * (n + length (rewritten w (rows_in (part_in (get_or ps i d) cur))))) ≤ t.length
-      all_room =
-          let s = ap (λ l. length (rewritten w (rows_in l))) part_as_was in
-          omega (arith, s, inv.1, ap length longer, length-append (done i) new, part_of_all (i + 1))
-
-      pub all_more : (cur' : List ℕ) (n' : ℕ) (keys' : Span) → cur' ≡ put_at (t.start + 8 * (3 + 2 * n)) (bytes_of (row_words (rewritten w (rows_in (part_in (get_or ps i d) cur))))) cur
-          → n' ≡ n + length (rewritten w (rows_in (part_in (get_or ps i d) cur))) → keys' ≡ widened_by keys (rewritten w (rows_in (part_in (get_or ps i d) cur)))
-          → AreWords (row_words (rewritten w (rows_in (part_in (get_or ps i d) cur)))) → AllSoFar w B t ps (i + 1) cur' n' keys'
-      all_more cur' n' keys' a b c f =
-          let was : rewritten w (rows_in (part_in (get_or ps i d) cur)) ≡ rewritten w (rows_in (part_in (get_or ps i d) B)) = ap (λ l. rewritten w (rows_in l)) part_as_was in
-          let words : row_words (done (i + 1)) ≡ row_words (done i) ++ row_words new = ap row_words longer ∙ row_words_append (done i) new in
-          let g : cur' ≡ put_at (t.start + 24) (bytes_of (row_words (done i) ++ row_words new)) B =
-          put_on (t.start + 24) (t.start + 8 * (3 + 2 * n)) B cur cur' (row_words (done i)) (row_words new) (omega (arith, inv.1, length_row_words (done i))) (omega arith) inv.0
-          (a ∙ ap (λ rs. put_at (t.start + 8 * (3 + 2 * n)) (bytes_of (row_words rs)) cur) was) in
-          let after : cur' ≡ put_at (t.start + 24) (bytes_of (row_words (done (i + 1)))) B = g ∙ ap (λ l. put_at (t.start + 24) (bytes_of l) B) (sym words) in (
-            after,
-            omega (arith, b, inv.1, ap length was, ap length longer, length-append (done i) new),
-            c ∙ ap (widened_by keys) was ∙ ap (λ k. widened_by k new) inv.2 ∙ sym (keys_append (done i) new) ∙ ap keys_of (sym longer),
-            subst AreWords (sym words) (All-append (λ v. v < 2 ^ 64) (row_words (done i)) (row_words new) inv.3 (subst (λ (rs : List Row). AreWords (row_words rs)) was f)),
-            ap length after ∙ length_put_at (t.start + 24) (bytes_of (row_words (done (i + 1)))) B (omega (arith, length_bytes_of (row_words (done (i + 1))), length_row_words (done (i + 1)), part_of_all (i + 1))),
-          )
-
-    pub all_end : length ps ≤ i → rewritten w (source_rows B (take i ps)) ≡ rewritten w (source_rows B ps)
-    all_end h = ap (λ l. rewritten w (source_rows B l)) (take_all i ps h)
+  pub source_step : (bs : List ℕ) → Some bs ≡ cond (lies_in (get_or ps i d) (length xs) && apart (get_or ps i d) t) (Some (part_in (get_or ps i d) xs)) None
+      → rewritten w (source_rows xs (drop i ps)) ≡ rewritten w (rows_from bs) ++ rewritten w (source_rows xs (drop (i + 1) ps))
+  source_step bs e =
+      let q = part_there xs t (get_or ps i d) bs e in
+      let rows : rows_from bs ≡ rows_in (part_in (get_or ps i d) xs) = ap rows_from q.1 ∙ rows_from_there (part_in (get_or ps i d) xs) (sym q.0 ∙ there) in
+      ap (rewritten w) (at_drop_more (source_rows xs) ps i d h ∙ ap (λ l. l ++ source_rows xs (drop (i + 1) ps)) (sym rows))
+      ∙ rewritten_append w (rows_from bs) (source_rows xs (drop (i + 1) ps))

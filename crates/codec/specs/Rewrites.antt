@@ -1,5 +1,5 @@
 -- Files written anew from others that lie in the same memory.
-use Rattle.std.specs.Prelude.{ℕ, ◌+◌, Bool, true, false, cond, not, ◌&&◌, ◌||◌, List, [], ◌∷◌, length, take, drop, is_some, Some, None, Option, nat_le}
+use Rattle.std.specs.Prelude.{◌≡◌, ℕ, ◌+◌, Bool, true, false, cond, not, ◌&&◌, ◌||◌, List, [], ◌∷◌, ◌++◌, length, take, drop, is_some, Some, None, Option, nat_le}
 use Rattle.std.specs.List.{flat_map}
 use Rattle.rows.specs.declared.row.Row.{Row}
 use Rattle.rows.specs.declared.span.Span.{Span}
@@ -8,6 +8,7 @@ use Rattle.rows.specs.Rows.{within, raised_row}
 use Rattle.codec.specs.declared.rewrite.Part.{Part}
 use Rattle.codec.specs.declared.rewrite.Rewrite.{Rewrite}
 use Rattle.codec.specs.declared.rewrite.Rewrite.TheVariants.{Whole, Outside, Raised}
+use Rattle.codec.specs.declared.rewrite.Rewriting.{Rewriting}
 use Rattle.codec.specs.declared.write.Written.{Written}
 use Rattle.codec.specs.Bounds.{every}
 use Rattle.codec.specs.Files.{File, file, most_rows, file_bytes, file_in}
@@ -59,6 +60,21 @@ is_source xs t p = lies_in p (length xs) && (apart p t && is_some (file_in (part
 -- the rows of several files, one behind the other
 abbrev pub source_rows : List ℕ → List Part → List Row
 source_rows xs ps = flat_map (λ p. rows_in (part_in p xs)) ps
+
+-- the memory around a target, with so much in the target
+abbrev pub memory_around : Rewriting → List ℕ → List ℕ
+memory_around r out = r.before.now ++ (out ++ r.behind.now)
+
+abbrev pub target_in : Rewriting → List ℕ → Part
+target_in r out = record { start = length r.before.now; length = length out }
+
+-- what holds of the memory and the target, whatever stands in the target
+abbrev pub AtAnyTarget : Rewriting → (List ℕ → Part → Type 0) → Type 0
+AtAnyTarget r P = (out : List ℕ) → r.end ≡ length r.before.now + length out → P (memory_around r out) (target_in r out)
+
+-- the rows of the sources that stay, as they are written
+abbrev pub rows_kept : Rewriting → List ℕ → List Part → List Row
+rows_kept r out ps = rewritten r.rewrite (source_rows (memory_around r out) ps)
 
 -- how many rows stay of one file, and of several
 abbrev pub survey : Rewrite → Bool → List Row → Option ℕ

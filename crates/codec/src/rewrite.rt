@@ -1,24 +1,31 @@
 // Files written anew from others: one part of the lent memory is read while another is written.
-ghost use Rattle.std.specs.Prelude.{◌≡◌, ◌+◌, ◌*◌, ◌≤◌, true, [], ◌∷◌, length, is_some, MatchOption};
+ghost use Rattle.std.specs.Prelude.{◌≡◌, ◌+◌, ◌*◌, ◌≤◌, ◌&&◌, true, cond, Some, None, [], ◌∷◌, length, is_some, ◌++◌, MatchOption};
+ghost use Rattle.std.specs.Option.{option_map};
 ghost use Rattle.codec.specs.Bounds.{every};
-ghost use Rattle.codec.specs.Files.{file_in, row_words};
+ghost use Rattle.codec.specs.Files.{file_in, row_words, rows_from};
 ghost use Rattle.codec.specs.Words.{AreWords, put_at, bytes_of};
 ghost use Rattle.codec.specs.Keys.{keys_of};
-ghost use Rattle.codec.specs.Rewrites.{fate_of, staying, rewritten, lies_in, apart, part_in, rows_in, is_source, source_rows, survey, survey_all, rewrite_done, widened_by};
+ghost use Rattle.codec.specs.Rewrites.{fate_of, staying, rewritten, lies_in, apart, part_in, rows_in, is_source, survey, survey_all, rewrite_done, widened_by, memory_around, target_in, rows_kept, AtAnyTarget};
 
-use crate::file::{MOST_ROWS, Rows, read_file, row_at};
+use crate::file::{MOST_ROWS, Rows, read_file};
 use crate::seal::put_seal;
 use crate::words::put_words;
 use crate::write::{NO_KEYS, Written, widened};
 use rows::row::Row;
 use rows::span::Span;
-use std::ops::Range;
 
 // A part of the lent memory.
 #[derive(Clone, Copy, PartialEq, Eq, Debug)]
 pub struct Part {
     pub start: usize,
     pub length: usize,
+}
+
+// What was written so far: how many rows, and their keys.
+#[derive(Clone, Copy)]
+struct Progress {
+    count: usize,
+    keys: Span,
 }
 
 // What becomes of the rows of files that are written anew.
@@ -64,6 +71,26 @@ impl Rewrite {
         }
         Some(count)
     }
+
+    // Writes the rows of a file that stay behind those that were written.
+    fn put_rows(self, bytes: &[u8], start: Progress, out: &mut [u8]) -> Progress
+        requires room { 8 * (4 + 2 * (start.count + length (rewritten self (rows_from bytes.now)))) ≤ length out.old }
+        ensures after { out.new ≡ put_at (8 * (3 + 2 * start.count)) (bytes_of (row_words (rewritten self (rows_from bytes.now)))) out.old }
+        ensures count { result.count ≡ start.count + length (rewritten self (rows_from bytes.now)) }
+        ensures keys { result.keys ≡ widened_by start.keys (rewritten self (rows_from bytes.now)) }
+        ensures fit { AreWords (row_words (rewritten self (rows_from bytes.now))) }
+    {
+        let mut count = start.count;
+        let mut keys = start.keys;
+        for row in Rows::of(bytes) {
+            if let Some(row) = self.kept(row) {
+                put_words(out, 3 + 2 * count, &row_words(row));
+                count += 1;
+                keys = widened(keys, row.key);
+            }
+        }
+        Progress { count, keys }
+    }
 }
 
 impl Part {
@@ -73,18 +100,11 @@ impl Part {
         self.start <= length && self.length <= length - self.start
     }
 
-    fn is_apart(self, other: Part) -> bool
-        ensures { result ≡ apart self other }
+    // The bytes of the part; none where it does not lie in these.
+    fn within(self, bytes: &[u8]) -> Option<&[u8]>
+        ensures { option_map (λ part. part.now) result ≡ cond (lies_in self (length bytes.now)) (Some (part_in self bytes.now)) None }
     {
-        self.lies_in(other.start) || other.lies_in(self.start)
-    }
-
-    fn range(self) -> Range<usize>
-        requires { self.start + self.length ≤ 18446744073709551615 }
-        ensures start { result.start ≡ self.start }
-        ensures end { result.end ≡ self.start + self.length }
-    {
-        self.start..self.start + self.length
+        bytes.get(self.start..)?.get(..self.length)
     }
 }
 
@@ -94,41 +114,41 @@ fn row_words(row: Row) -> [u64; 2]
     [row.key as u64, row.amount]
 }
 
-// What was written so far: how many rows, and their keys.
+// What becomes of the rows of the sources, and the memory before and behind the target, where these are read while it is written.
 #[derive(Clone, Copy)]
-struct Progress {
-    count: usize,
-    keys: Span,
-}
-
-// What becomes of the rows of the sources, and the part to which those that stay are written.
-#[derive(Clone, Copy)]
-struct Rewriting {
+struct Rewriting<'a> {
     rewrite: Rewrite,
-    target: Part,
+    before: &'a [u8],
+    behind: &'a [u8],
+    // Where the target ends.
+    end: usize,
 }
 
-impl Rewriting {
-    // How many rows of a source stay; none also where it does not lie in the memory and apart from the target.
-    fn count_in(self, bytes: &[u8], source: Part) -> Option<usize>
-        ensures { result ≡ survey self.rewrite (is_source bytes.now self.target source) (rows_in (part_in source bytes.now)) }
+impl<'a> Rewriting<'a> {
+    // The bytes of a part of the memory; none where it does not lie in it and apart from the target.
+    fn part(&self, part: Part) -> Option<&'a [u8]>
+        ensures { AtAnyTarget self.now (λ memory target. option_map (λ bytes. bytes.now) result ≡ cond (lies_in part (length memory) && apart part target) (Some (part_in part memory)) None) }
     {
-        if !source.lies_in(bytes.len()) {
-            return None;
+        match part.start.checked_sub(self.end) {
+            Some(start) => Part { start, ..part }.within(self.behind),
+            None => part.within(self.before),
         }
-        if !source.is_apart(self.target) {
-            return None;
-        }
-        self.rewrite.count_staying(&bytes[source.range()])
+    }
+
+    // How many rows of a source stay; none also where it does not lie in the memory and apart from the target.
+    fn count_in(&self, source: Part) -> Option<usize>
+        ensures { AtAnyTarget self.now (λ memory target. result ≡ survey self.now.rewrite (is_source memory target source) (rows_in (part_in source memory))) }
+    {
+        self.rewrite.count_staying(self.part(source)?)
     }
 
     // How many rows of all the sources stay; none also where they are more than a file takes.
-    fn count_in_all(self, bytes: &[u8], sources: &[Part]) -> Option<usize>
-        ensures { result ≡ survey_all self.rewrite bytes.now self.target sources.now }
+    fn count_in_all(&self, sources: &[Part]) -> Option<usize>
+        ensures { AtAnyTarget self.now (λ memory target. result ≡ survey_all self.now.rewrite memory target sources.now) }
     {
         let mut total = 0;
         for source in sources {
-            let count = self.count_in(bytes, *source)?;
+            let count = self.count_in(*source)?;
             if count > MOST_ROWS - total {
                 return None;
             }
@@ -137,53 +157,60 @@ impl Rewriting {
         Some(total)
     }
 
-    // Writes the rows of one source that stay behind those that were written.
-    fn put_rows(self, bytes: &mut [u8], source: Part, start: Progress) -> Progress
-        requires inside { self.target.start + self.target.length ≤ length bytes.old }
-        requires valid { is_source bytes.old self.target source ≡ true }
-        requires room { 8 * (4 + 2 * (start.count + length (rewritten self.rewrite (rows_in (part_in source bytes.old))))) ≤ self.target.length }
-        ensures after { bytes.new ≡ put_at (self.target.start + 8 * (3 + 2 * start.count)) (bytes_of (row_words (rewritten self.rewrite (rows_in (part_in source bytes.old))))) bytes.old }
-        ensures count { result.count ≡ start.count + length (rewritten self.rewrite (rows_in (part_in source bytes.old))) }
-        ensures keys { result.keys ≡ widened_by start.keys (rewritten self.rewrite (rows_in (part_in source bytes.old))) }
-        ensures fit { AreWords (row_words (rewritten self.rewrite (rows_in (part_in source bytes.old)))) }
-    {
-        let mut count = start.count;
-        let mut keys = start.keys;
-        // By index: the rows lie in the memory that is written, so that no iterator can borrow them.
-        for i in 0..(source.length / 16).saturating_sub(2) {
-            if let Some(row) = row_at(&bytes[source.range()], i) {
-                if let Some(row) = self.rewrite.kept(row) {
-                    put_words(
-                        &mut bytes[self.target.range()],
-                        3 + 2 * count,
-                        &row_words(row),
-                    );
-                    count += 1;
-                    keys = widened(keys, row.key);
-                }
-            }
-        }
-        Progress { count, keys }
-    }
-
     // Writes the rows of all sources that stay, one source behind the other.
-    fn put_all(self, bytes: &mut [u8], sources: &[Part]) -> Span
-        requires inside { self.target.start + self.target.length ≤ length bytes.old }
-        requires valid { every (is_source bytes.old self.target) sources.now ≡ true }
-        requires room { 8 * (4 + 2 * length (rewritten self.rewrite (source_rows bytes.old sources.now))) ≤ self.target.length }
-        ensures after { bytes.new ≡ put_at (self.target.start + 24) (bytes_of (row_words (rewritten self.rewrite (source_rows bytes.old sources.now)))) bytes.old }
-        ensures keys { result ≡ keys_of (rewritten self.rewrite (source_rows bytes.old sources.now)) }
-        ensures fit { AreWords (row_words (rewritten self.rewrite (source_rows bytes.old sources.now))) }
+    fn put_all(&self, sources: &[Part], out: &mut [u8]) -> Span
+        requires end { self.now.end ≡ length self.now.before.now + length out.old }
+        requires valid { every (is_source (memory_around self.now out.old) (target_in self.now out.old)) sources.now ≡ true }
+        requires room { 8 * (4 + 2 * length (rows_kept self.now out.old sources.now)) ≤ length out.old }
+        ensures after { out.new ≡ put_at 24 (bytes_of (row_words (rows_kept self.now out.old sources.now))) out.old }
+        ensures keys { result ≡ keys_of (rows_kept self.now out.old sources.now) }
+        ensures fit { AreWords (row_words (rows_kept self.now out.old sources.now)) }
     {
         let mut progress = Progress {
             count: 0,
             keys: NO_KEYS,
         };
         for source in sources {
-            progress = self.put_rows(bytes, *source, progress);
+            if let Some(bytes) = self.part(*source) {
+                progress = self.rewrite.put_rows(bytes, progress, out);
+            }
         }
         progress.keys
     }
+}
+
+// Writes a file of the rows of others, which lie before and behind the target. The two parts are put together only here: where they are split off, nothing would
+// be known of the whole after one struct had borrowed from both.
+fn rewrite_between(
+    before: &[u8],
+    out: &mut [u8],
+    behind: &[u8],
+    sources: &[Part],
+    rewrite: Rewrite,
+    number: u32,
+    began: u64,
+) -> Option<Written>
+    ensures { (result, before.now ++ (out.new ++ behind.now)) ≡ rewrite_done rewrite (before.now ++ (out.old ++ behind.now)) sources.now (record { start = length before.now; length = length out.old }) number began }
+{
+    let end = before.len() + out.len();
+    let rewriting = Rewriting {
+        rewrite,
+        before,
+        behind,
+        end,
+    };
+    let count = rewriting.count_in_all(sources)?;
+    if count == 0 {
+        return None;
+    }
+    let length = 8 * (4 + 2 * count);
+    if out.len() < length {
+        return None;
+    }
+    put_words(out, 0, &[number as u64, began, count as u64]);
+    let keys = rewriting.put_all(sources, out);
+    put_seal(out, 3 + 2 * count);
+    Some(Written { length, keys })
 }
 
 // Writes one file of the rows of others, which lie in the same memory. Nothing is written where a source is no file or does not lie apart from the target,
@@ -201,21 +228,7 @@ pub fn rewrite_files(
     if !target.lies_in(bytes.len()) {
         return None;
     }
-    let rewriting = Rewriting { rewrite, target };
-    let count = rewriting.count_in_all(bytes, sources)?;
-    if count == 0 {
-        return None;
-    }
-    let length = 8 * (4 + 2 * count);
-    if target.length < length {
-        return None;
-    }
-    put_words(
-        &mut bytes[target.range()],
-        0,
-        &[number as u64, began, count as u64],
-    );
-    let keys = rewriting.put_all(bytes, sources);
-    put_seal(&mut bytes[target.range()], 3 + 2 * count);
-    Some(Written { length, keys })
+    let (before, rest) = bytes.split_at_mut(target.start);
+    let (out, behind) = rest.split_at_mut(target.length);
+    rewrite_between(before, out, behind, sources, rewrite, number, began)
 }
