@@ -72,12 +72,7 @@ fn conflict_since(
 
 impl Table {
     // Looks at the entries that came since the writer looked last. Where one is in conflict, or the version at which the writer began is no longer kept, it is told to begin anew and is idle.
-    pub fn look(
-        &mut self,
-        heap: Global,
-        log: LogMemory<'_>,
-        writer: u64,
-    ) -> Result<Answer, Refusal>
+    pub fn look(&mut self, heap: Global, log: LogMemory<'_>, writer: u64) -> Result<Answer, Refusal>
         ensures { (d fs : List ℕ) → Does (told_of result) (memory_of self.old d fs log.entry.ends.now log.entry.bytes.now) (memory_of self.new d fs log.entry.ends.now log.entry.bytes.now) (look_done writer (memory_of self.old d fs log.entry.ends.now log.entry.bytes.now)) }
     {
         let index = index_of(writer)?;
