@@ -291,6 +291,7 @@ pub fn read_entry(heap: Global, bytes: &[u8]) -> Result<Option<Entry>, Refusal>
     };
     Ok(Some(Entry {
         place: number(place),
+        // Below 16.
         writer: writer as u8,
         serial: number(serial),
         change,

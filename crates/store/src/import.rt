@@ -103,6 +103,7 @@ impl Store {
         let end = self.file_end(from)?;
         let file = &from.bytes[from.at + 16..end];
         let start = self.slot_start(files.view(), slot);
+        // By place: memory is lent as numbers, and of pairs lent to be written nothing is known afterwards.
         files.directory[2 * slot] = from.word(0).unwrap() + 1;
         files.directory[1 + 2 * slot] = file.len() as u64;
         files.bytes[start..start + file.len()].copy_from_slice(file);

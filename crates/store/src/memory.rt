@@ -28,7 +28,7 @@ impl FileMemoryMut<'_> {
     }
 }
 
-// Where entries lie: where each of them ends, and their bytes back to back.
+// Where entries lie: where each of them ends, and their bytes back to back. A type of its own, so that it is never taken for the memory of files.
 #[derive(Clone, Copy)]
 pub struct LogMemory<'a> {
     pub ends: &'a [u64],

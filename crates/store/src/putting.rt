@@ -39,10 +39,12 @@ impl Store {
         ensures same { SameButNext self.old self.new }
     {
         let number = self.next;
+        // By place: memory is lent as numbers, and of pairs lent to be written nothing is known afterwards.
         directory[2 * slot] = number + 1;
         directory[1 + 2 * slot] = written.length as u64;
         self.next = number + 1;
         Added {
+            // Below 2^32, as is asked.
             number: number as u32,
             keys: written.keys,
         }
@@ -61,6 +63,7 @@ impl Store {
         let slot = self.next_slot(memory.view())?;
         let start = self.slot_start(memory.view(), slot);
         let out = &mut memory.bytes[start..start + self.slot_size()];
+        // A next number of 2^32 was refused by `next_slot`.
         let Some(written) = write_file(self.next as u32, began, lent, out) else {
             return Err(Unput::OutOfBounds);
         };
@@ -83,6 +86,7 @@ impl Store {
             start: self.slot_start(memory.view(), slot),
             length: self.slot_size(),
         };
+        // A next number of 2^32 was refused by `next_slot`.
         let number = self.next as u32;
         let Some(written) = rewrite_files(memory.bytes, sources, rewrite, target, number, began)
         else {

@@ -40,7 +40,7 @@ fn front(bytes: &[u8], count: usize) -> &[u8] {
     &bytes[..count]
 }
 
-// The memory of files, lent to be read.
+// The memory of files, lent to be read. Tests hold its slices apart, since they also write to them and look at them.
 fn files_in<'a>(directory: &'a [u64], bytes: &'a [u8]) -> FileMemory<'a> {
     FileMemory { directory, bytes }
 }

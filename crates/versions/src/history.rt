@@ -28,6 +28,7 @@ impl History {
         ensures { UnlessOut result (history_of result ≡ history_in (log_in store.now log.entry) version) }
     {
         let mut entries = Vec::new(heap);
+        // By place: entries lie in lent bytes, and each is opened for itself.
         for place in 0..version.min(store.entries()) {
             let Some(entry) = store.entry(heap, log, place)? else {
                 return Err(Refusal::DamagedEntry(place as u32));
