@@ -8,6 +8,8 @@ mod formats;
 #[cfg(test)]
 mod given;
 #[cfg(test)]
+mod histories;
+#[cfg(test)]
 mod opening;
 #[cfg(test)]
 mod orders;
