@@ -1,6 +1,7 @@
 // A store read in from the bytes that it was written out as.
 ghost use Rattle.std.specs.Prelude.{◌≡◌, ◌+◌, ◌<◌, ◌≤◌, length, IfOk};
 ghost use Rattle.store.specs.Import.{file_end, file_read, files_read, entry_end, place_read, entries_read, body_read, numbers_read, read_in};
+ghost use Rattle.store.specs.Memory.{LendsSameFiles, LendsSameLog};
 ghost use Rattle.store.specs.Reading.{at_of};
 ghost use Rattle.store.specs.Slots.{slots};
 
@@ -37,6 +38,7 @@ fn read_place<'a>(
     requires behind { used ≤ length log.old.bytes.now }
     ensures read { (at_of result, log.new.ends.now, log.new.bytes.now) ≡ place_read from.entry.at from.entry.bytes.now place used log.old.ends.now log.old.bytes.now }
     ensures bytes { IfOk result (λ to. to.bytes.now ≡ from.entry.bytes.now) }
+    ensures lent { LendsSameLog log.old log.new }
 {
     let end = entry_end(from, log.bytes.len() - used)?;
     let entry = &from.bytes[from.at + 8..end];
@@ -57,6 +59,7 @@ fn read_entries<'a>(
     requires { count ≤ length log.old.ends.now }
     ensures read { (at_of result, log.new.ends.now, log.new.bytes.now) ≡ entries_read from.entry.bytes.now count 0 from.entry.at 0 log.old.ends.now log.old.bytes.now }
     ensures bytes { IfOk result (λ to. to.bytes.now ≡ from.entry.bytes.now) }
+    ensures lent { LendsSameLog log.old log.new }
 {
     let mut here = from;
     let mut used = 0;
@@ -99,6 +102,7 @@ impl Store {
         requires { slot < slots self.now.most_rows (length files.old.directory.now) (length files.old.bytes.now) }
         ensures read { (at_of result, files.new.directory.now, files.new.bytes.now) ≡ file_read self.now.most_rows from.entry.at from.entry.bytes.now slot files.old.directory.now files.old.bytes.now }
         ensures bytes { IfOk result (λ to. to.bytes.now ≡ from.entry.bytes.now) }
+        ensures lent { LendsSameFiles files.old files.new }
     {
         let end = self.file_end(from)?;
         let file = &from.bytes[from.at + 16..end];
@@ -123,6 +127,7 @@ impl Store {
         requires { count ≤ slots self.now.most_rows (length files.old.directory.now) (length files.old.bytes.now) }
         ensures read { (at_of result, files.new.directory.now, files.new.bytes.now) ≡ files_read self.now.most_rows from.entry.bytes.now count 0 from.entry.at files.old.directory.now files.old.bytes.now }
         ensures bytes { IfOk result (λ to. to.bytes.now ≡ from.entry.bytes.now) }
+        ensures lent { LendsSameFiles files.old files.new }
     {
         let mut here = from;
         // Files are counted: they lie one behind the other, each as long as it says.
@@ -143,7 +148,9 @@ impl Store {
         requires header { 56 ≤ length bytes.now }
         requires slots { held ≤ slots self.now.most_rows (length files.old.directory.now) (length files.old.bytes.now) }
         requires places { self.now.entries ≤ length log.old.ends.now }
-        ensures { (result, files.new.directory.now, files.new.bytes.now, log.new.ends.now, log.new.bytes.now) ≡ body_read self.now.most_rows bytes.now held self.now.entries files.old.directory.now files.old.bytes.now log.old.ends.now log.old.bytes.now }
+        ensures read { (result, files.new.directory.now, files.new.bytes.now, log.new.ends.now, log.new.bytes.now) ≡ body_read self.now.most_rows bytes.now held self.now.entries files.old.directory.now files.old.bytes.now log.old.ends.now log.old.bytes.now }
+        ensures files { LendsSameFiles files.old files.new }
+        ensures log { LendsSameLog log.old log.new }
     {
         files.directory.fill(0);
         let behind = self.read_files(Reader { bytes, at: 56 }, files, held)?;
@@ -160,7 +167,9 @@ impl Store {
         files: &mut FileMemoryMut<'_>,
         log: &mut LogMemoryMut<'_>,
     ) -> Result<Store, Unread>
-        ensures { (numbers_read result, files.new.directory.now, files.new.bytes.now, log.new.ends.now, log.new.bytes.now) ≡ read_in bytes.now files.old.directory.now files.old.bytes.now log.old.ends.now log.old.bytes.now }
+        ensures read { (numbers_read result, files.new.directory.now, files.new.bytes.now, log.new.ends.now, log.new.bytes.now) ≡ read_in bytes.now files.old.directory.now files.old.bytes.now log.old.ends.now log.old.bytes.now }
+        ensures files { LendsSameFiles files.old files.new }
+        ensures log { LendsSameLog log.old log.new }
     {
         let header = Header::read(bytes)?;
         let store = Store {

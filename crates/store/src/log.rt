@@ -4,7 +4,7 @@ ghost use Rattle.std.specs.Option.{option_map};
 ghost use Rattle.rows.specs.Refusals.{UnlessOut};
 ghost use Rattle.codec.specs.Entries.{entry_of, entry_read};
 ghost use Rattle.store.specs.Log.{log_end, bounds_of, entry_bytes_at, next_start, bytes_left, place_for, entry_at, put_entry};
-ghost use Rattle.store.specs.Memory.{log_in_mut};
+ghost use Rattle.store.specs.Memory.{log_in_mut, LendsSameLog};
 
 use crate::Store;
 use crate::memory::{LogMemory, LogMemoryMut};
@@ -118,6 +118,7 @@ impl Store {
     // Puts an entry behind the others, and tells the version that it makes. Where it cannot be put, nothing changes.
     pub fn put_entry(&mut self, memory: &mut LogMemoryMut<'_>, entry: &Entry) -> Result<u64, Unput>
         ensures put { (result, log_in_mut self.new memory.new) ≡ put_entry (entry_of entry.now) (log_in_mut self.old memory.old) }
+        ensures lent { LendsSameLog memory.old memory.new }
         ensures same { (self.new.horizon ≡ self.old.horizon) × (self.new.next ≡ self.old.next) × (self.new.most_rows ≡ self.old.most_rows) }
     {
         let (start, length) = self.place_for(memory.view(), entry)?;

@@ -1,6 +1,6 @@
 // Putting files: into the first free slot, under the next number.
 ghost use Rattle.std.specs.Prelude.{◌≡◌, ◌+◌, ◌*◌, ◌<◌, ◌≤◌, length, slice_set};
-ghost use Rattle.store.specs.Memory.{slot_count, files_in_mut};
+ghost use Rattle.store.specs.Memory.{slot_count, files_in_mut, LendsSameFiles};
 ghost use Rattle.store.specs.Putting.{next_slot, put_rows, put_rewritten, SameButNext};
 
 use crate::Store;
@@ -58,6 +58,7 @@ impl Store {
         lent: &[u64],
     ) -> Result<Added, Unput>
         ensures put { (result, files_in_mut self.new memory.new) ≡ put_rows began lent.now (files_in_mut self.old memory.old) }
+        ensures lent { LendsSameFiles memory.old memory.new }
         ensures same { SameButNext self.old self.new }
     {
         let slot = self.next_slot(memory.view())?;
@@ -79,6 +80,7 @@ impl Store {
         rewrite: Rewrite,
     ) -> Result<Added, Unput>
         ensures put { (result, files_in_mut self.new memory.new) ≡ put_rewritten began sources.now rewrite (files_in_mut self.old memory.old) }
+        ensures lent { LendsSameFiles memory.old memory.new }
         ensures same { SameButNext self.old self.new }
     {
         let slot = self.next_slot(memory.view())?;

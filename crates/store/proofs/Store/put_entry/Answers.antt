@@ -12,6 +12,7 @@ returns-in_err-start c =
     let told = place_told (entry_of c.args.entry.now) c.args.self.now.entries c.view.result _ _ _ c.view.ensures.ends c.view.ensures.bytes c.in_err-start.ensures in
     record {
       put = rw (p.1, p.2) (put_not (entry_of c.args.entry.now) (log_in_mut c.args.self.now c.args.memory.now) _ told);
+      lent = (refl, refl);
       same = (refl, refl, refl);
     }
 
@@ -20,5 +21,6 @@ returns c =
     let told = place_told (entry_of c.args.entry.now) c.args.self.now.entries c.view.result _ _ _ c.view.ensures.ends c.view.ensures.bytes c.in_ok-start.ensures in
     record {
       put = put_done (entry_of c.args.entry.now) (log_in_mut c.args.self.now c.args.memory.now) c.in_ok-start.start c.in_ok-start.length c.write_entry.result c.write_entry.new.out told c.write_entry.ensures;
+      lent = (refl, refl);
       same = (refl, refl, refl);
     }

@@ -14,6 +14,7 @@ returns-in_err-slot c =
     let told = slot_told c.args.self.now c.view.result _ _ _ c.view.ensures.directory c.view.ensures.bytes c.in_err-slot.ensures in
     record {
       put = rw (p.1, p.2) (put_not (files_in_mut c.args.self.now c.args.memory.now) (λ i. rewrite_done c.args.rewrite c.args.memory.now.bytes.now c.args.sources.now (slot_part c.args.self.now.most_rows i) c.args.self.now.next c.args.began) _ told);
+      lent = (refl, refl);
       same = (refl, refl, refl);
     }
 
@@ -28,6 +29,7 @@ returns-in_default c =
     c.in_default.ensures ∙ in_that_slot c.args.rewrite c.args.memory.now.bytes.now c.args.sources.now c.args.self.now.next c.args.began c.args.self.now.most_rows c.in_ok-slot.slot _ _ c.slot_start.ensures.start c.slot_size.ensures in
     record {
       put = put_unfit (files_in_mut c.args.self.now c.args.memory.now) (λ i. rewrite_done c.args.rewrite c.args.memory.now.bytes.now c.args.sources.now (slot_part c.args.self.now.most_rows i) c.args.self.now.next c.args.began) c.in_ok-slot.slot told _ written (none_same _ _ _ _ _ written);
+      lent = (refl, refl);
       same = (refl, refl, refl);
     }
 
@@ -47,5 +49,6 @@ returns c =
     record {
       put = put_done (files_in_mut c.args.self.now c.args.memory.now) (λ i. rewrite_done c.args.rewrite c.args.memory.now.bytes.now c.args.sources.now (slot_part c.args.self.now.most_rows i) c.args.self.now.next c.args.began) c.in_ok-slot.slot told c.in-Some.written _ _ c.fill_slot.result _ _ written
           c.fill_slot.ensures.added c.fill_slot.ensures.after c.fill_slot.ensures.next c.fill_slot.ensures.same.2;
+      lent = (refl, refl);
       same = c.fill_slot.ensures.same;
     }

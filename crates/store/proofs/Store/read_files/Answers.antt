@@ -12,6 +12,7 @@ returns-in_err-here c =
     rw (p.1, p.2) (record {
       read = files_step c.args.self.now.most_rows c.args.from.bytes.now c.args.count l.slot l.here.at l.files.directory.now l.files.bytes.now _ (Err _, c.read_slot.new.files.directory.now, c.read_slot.new.files.bytes.now) (omega arith) told l.invariant.0;
       bytes = tt;
+      lent = (c.in_err-here.ensures.lent.0 ∙ l.invariant.4.0, c.in_err-here.ensures.lent.1 ∙ l.invariant.4.1);
     })
 
 pub read_slot-requires : goal.read_slot-requires
@@ -31,6 +32,7 @@ loop-slot-preserved c =
       c.in_ok-here.ensures.bytes ∙ l.invariant.1,
       k.1 ∙ l.invariant.2,
       k.2 ∙ l.invariant.3,
+      (c.in_ok-here.ensures.lent.0 ∙ l.invariant.4.0, c.in_ok-here.ensures.lent.1 ∙ l.invariant.4.1),
     )
 
 pub returns : goal.returns
@@ -39,4 +41,5 @@ returns c =
     record {
       read = files_all c.args.self.now.most_rows c.args.from.bytes.now c.args.count l.slot l.here.at l.files.directory.now l.files.bytes.now _ (omega arith) l.invariant.0;
       bytes = l.invariant.1;
+      lent = l.invariant.4;
     }

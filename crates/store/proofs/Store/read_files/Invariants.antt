@@ -1,5 +1,6 @@
 use Rattle.std.proofs.Common.{◌≡◌, ◌-◌, length}
 use Rattle.store.specs.Import.{files_read}
+use Rattle.store.specs.Memory.{LendsSameFiles}
 use Rattle.store.proofs.Store.read_files.Given as goal
 
 abbrev pub invariant-loop-slot : goal.invariant-loop-slot
@@ -8,3 +9,4 @@ invariant-loop-slot l =
     × (l.here.bytes.now ≡ l.fn.from.bytes.now)
     × (length l.files.directory.now ≡ length l.initial.files.directory.now)
     × (length l.files.bytes.now ≡ length l.initial.files.bytes.now)
+    × LendsSameFiles l.initial.files l.files

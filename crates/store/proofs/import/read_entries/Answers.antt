@@ -12,6 +12,7 @@ returns-in_err-next c =
     rw (p.1, p.2) (record {
       read = entries_step c.args.from.bytes.now c.args.count l.place l.here.at l.used l.log.ends.now l.log.bytes.now _ (Err _, c.read_place.new.log.ends.now, c.read_place.new.log.bytes.now) (omega arith) told l.invariant.0;
       bytes = tt;
+      lent = (c.in_err-next.ensures.lent.0 ∙ l.invariant.5.0, c.in_err-next.ensures.lent.1 ∙ l.invariant.5.1);
     })
 
 pub read_place-requires : goal.read_place-requires
@@ -28,6 +29,7 @@ loop-place-preserved c =
       omega (arith, k.2, k.4),
       k.3 ∙ l.invariant.3,
       k.4 ∙ l.invariant.4,
+      (c.in_ok-next.ensures.lent.0 ∙ l.invariant.5.0, c.in_ok-next.ensures.lent.1 ∙ l.invariant.5.1),
     )
 
 -- the next entry begins behind the length of this one
@@ -47,4 +49,5 @@ returns c =
     record {
       read = entries_all c.args.from.bytes.now c.args.count l.place l.here.at l.used l.log.ends.now l.log.bytes.now _ (omega arith) l.invariant.0;
       bytes = l.invariant.1;
+      lent = l.invariant.5;
     }

@@ -1,5 +1,6 @@
 use Rattle.std.proofs.Common.{◌≡◌, ◌-◌, ◌≤◌, length}
 use Rattle.store.specs.Import.{entries_read}
+use Rattle.store.specs.Memory.{LendsSameLog}
 use Rattle.store.proofs.import.read_entries.Given as goal
 
 abbrev pub invariant-loop-place : goal.invariant-loop-place
@@ -9,3 +10,4 @@ invariant-loop-place l =
     × (l.used ≤ length l.log.bytes.now)
     × (length l.log.ends.now ≡ length l.initial.log.ends.now)
     × (length l.log.bytes.now ≡ length l.initial.log.bytes.now)
+    × LendsSameLog l.initial.log l.log
