@@ -1,9 +1,7 @@
 -- Rows that are written anew, and the rows of a file as they are read for that.
-use Rattle.std.proofs.Common.{◌≡◌, ℕ, ◌+◌, ◌<◌, ◌≤◌, Bool, true, false, ◌||◌, List, [], ◌∷◌, ◌++◌, length, get_or, is_some, Some, None, Option, sym, refl, ap, ◌∙◌, arith}
-use Rattle.std.specs.List.{slice_get}
+use Rattle.std.proofs.Common.{◌≡◌, ℕ, ◌+◌, ◌≤◌, Bool, true, false, ◌||◌, List, [], ◌∷◌, ◌++◌, length, is_some, Some, None, Option, sym, refl, ap, ◌∙◌, arith}
 use Rattle.std.specs.Option.{option_map}
 use Rattle.std.proofs.lemmas.List.{append_assoc, length-append}
-use Rattle.std.proofs.lemmas.Option.{slice_get-get_or}
 use Rattle.std.proofs.lemmas.Bool.Decides.{nat_tests}
 use Rattle.rows.specs.declared.row.Row.{Row}
 use Rattle.rows.specs.declared.span.Span.{Span}
@@ -13,10 +11,9 @@ use Rattle.rows.specs.Rows.{outside, raised}
 use Rattle.codec.specs.declared.file.Head.{Head}
 use Rattle.codec.specs.declared.rewrite.Rewrite.{Rewrite}
 use Rattle.codec.specs.declared.rewrite.Rewrite.TheVariants.{Whole, Outside, Raised}
-use Rattle.codec.specs.Files.{File, head_of, file_in, row_in, rows_from}
+use Rattle.codec.specs.Files.{File, head_of, file_in, rows_from}
 use Rattle.codec.specs.Rewrites.{fate_of, staying, breaks, rewritten, refuses, rows_in, survey}
-use Rattle.codec.specs.Words.{words_of}
-use Rattle.codec.proofs.FileLaws.{rows_are_there, rows_from_file}
+use Rattle.codec.proofs.FileLaws.{rows_from_file}
 
 -- over lists put together
 pub rewritten_append : (w : Rewrite) (xs ys : List Row) → rewritten w (xs ++ ys) ≡ rewritten w xs ++ rewritten w ys
@@ -94,26 +91,6 @@ head_there xs h e = by (file_in xs) e
     by : (o : Option File) → Some h ≡ option_map head_of o → (is_some o ≡ true) × (length (some_else o [] (λ f. f.rows)) ≡ h.count)
     by None p = absurd (let z : ◌≡◌ {A = ℕ} 0 1 = cc in omega arith)
     by (Some f) p = (refl, let q : head_of f ≡ h = cc in ap (λ (g : Head). g.count) q)
-
-rows_there : (xs : List ℕ) (i : ℕ) → is_some (file_in xs) ≡ true → row_in (words_of xs) i ≡ slice_get (rows_in xs) i
-unfolding rows_in
-rows_there xs i e = by (file_in xs) refl e
-  where
-    by : (o : Option File) → file_in xs ≡ o → is_some o ≡ true → row_in (words_of xs) i ≡ slice_get (some_else o [] (λ f. f.rows)) i
-    by None p q = absurd (let z : ◌≡◌ {A = ℕ} 0 1 = cc in omega arith)
-    by (Some f) p q = rows_are_there xs f p i
-
-module _ (xs : List ℕ) (i : ℕ) (file : is_some (file_in xs) ≡ true) (h : i < length (rows_in xs)) where
-  pub row_there : (r : Row) → Some r ≡ row_in (words_of xs) i → get_or (rows_in xs) i r ≡ r
-  row_there r e = let p = slice_get-get_or (rows_in xs) i r h in let q = rows_there xs i file in cc
-
-  pub row_not_there : None ≡ row_in (words_of xs) i → ⊥
-  row_not_there e =
-      let r : Row = record { key = 0; amount = 0 } in
-      let p = slice_get-get_or (rows_in xs) i r h in
-      let q = rows_there xs i file in
-      let z : ◌≡◌ {A = ℕ} 0 1 = cc in
-      omega arith
 
 pub rows_from_there : (xs : List ℕ) → is_some (file_in xs) ≡ true → rows_from xs ≡ rows_in xs
 unfolding rows_in

@@ -74,7 +74,7 @@ fn all_fit(adds: &[Added]) -> bool
     adds.iter().all(|added| added.fits())
 }
 
-// The same, and none also where a file is out of its bounds.
+// How many numbers an entry with these files has before its sum; none also where a file is out of its bounds.
 fn files_words(adds: &[Added], takes: &[u32]) -> Option<usize>
     ensures { result ≡ (if files_writable adds.now takes.now then Some (count_with adds.now takes.now) else None) }
 {

@@ -1,4 +1,4 @@
-// Bytes as numbers of 64 bits, eight bytes to each, the least byte first. Places are counted in numbers.
+// Bytes as numbers of 64 bits, eight bytes to each, the least byte first.
 ghost use Rattle.std.specs.Prelude.{◌≡◌, ◌+◌, ◌*◌, ◌%◌, ◌^◌, ◌≤◌, length, sum};
 ghost use Rattle.codec.specs.Words.{AreWords, numbers, le, word_from, bytes_le, put_at, bytes_of};
 

@@ -1,9 +1,9 @@
 -- Laws of rows in a span, rows that are raised, and rows alike.
-use Rattle.std.proofs.Common.{◌≡◌, ℕ, ◌+◌, ◌<◌, ◌≤◌, Bool, true, false, cond, not, eqb, List, [], ◌∷◌, ◌++◌, map, length, get_or, take, Some, sum_by, count_by, filter, sym, refl, ap, ◌∙◌, arith}
+use Rattle.std.proofs.Common.{◌≡◌, ℕ, ◌+◌, ◌<◌, ◌≤◌, Bool, true, cond, not, eqb, List, [], ◌∷◌, ◌++◌, map, length, get_or, take, Some, sum_by, count_by, filter, sym, refl, ap, ◌∙◌, arith}
 use Rattle.std.proofs.lemmas.List.Elements.{filter-append}
 use Rattle.std.proofs.lemmas.List.Filters.{length-filter_both}
 use Rattle.std.proofs.lemmas.List.{map-append, map_more}
-use Rattle.std.proofs.lemmas.List.Sums.{sum_by-cons, sum_by-append, count_by_more_yes, count_by_more_no, length-filter}
+use Rattle.std.proofs.lemmas.List.Sums.{sum_by-cons, sum_by-append, length-filter}
 use Rattle.std.proofs.lemmas.Bool.{eqb-true, eq-eqb, and_parts, and_from}
 use Rattle.std.proofs.lemmas.Bool.Decides.{nat_tests}
 use Rattle.rows.specs.declared.row.Row.{Row}
@@ -148,14 +148,6 @@ many_alike s xs ys h = sum_alike _ xs ys h
 
 -- one row more, as a loop over rows meets it
 module _ (s : Span) (xs : List Row) (i : ℕ) (d : Row) (h : i < length xs) where
-  pub many_more_in : true ≡ within s (get_or xs i d) → many_within s (take (i + 1) xs) ≡ many_within s (take i xs) + 1
-  unfolding many_within
-  many_more_in t = count_by_more_yes (within s) xs i d h (sym t)
-
-  pub many_more_out : false ≡ within s (get_or xs i d) → many_within s (take (i + 1) xs) ≡ many_within s (take i xs)
-  unfolding many_within
-  many_more_out t = count_by_more_no (within s) xs i d h (sym t)
-
   pub raised_more : (n : ℕ) (r : Row) → Some r ≡ raised_row s n (get_or xs i d) → raised s n (take (i + 1) xs) ≡ raised s n (take i xs) ++ r ∷ []
   unfolding raised
   raised_more n r e =

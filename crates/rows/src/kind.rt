@@ -1,4 +1,4 @@
-// The kinds of orders, and the numbers that stand for them.
+// The kinds of orders, and the numbers that stand for them: here alone, since they are what is read and written.
 ghost use Rattle.std.specs.Prelude.{◌≡◌};
 ghost use Rattle.rows.specs.Kinds.{IsKindFrom, number_of_kind};
 

@@ -1,5 +1,5 @@
 -- What writing out appends, by the files and entries held.
-use Rattle.std.proofs.Common.{◌≡◌, ℕ, zero, suc, ◌+◌, ◌-◌, ◌<◌, ◌≤◌, cond, leb, List, [], ◌∷◌, ◌++◌, length, get_or, take, Ok, Err, Result, sym, refl, ap, ◌∙◌, add-one, arith}
+use Rattle.std.proofs.Common.{◌≡◌, ℕ, zero, suc, ◌+◌, ◌-◌, ◌<◌, ◌≤◌, cond, List, [], ◌∷◌, ◌++◌, length, get_or, take, Ok, Err, Result, sym, refl, ap, ◌∙◌, add-one, arith}
 use Rattle.std.proofs.lemmas.Bool.Decides.{nat_tests}
 use Rattle.std.specs.List.{flat_map}
 use Rattle.std.proofs.lemmas.List.{append_assoc, append-nil, length-append, take_all, take_more}
@@ -18,10 +18,6 @@ use Rattle.std.proofs.lemmas.Bool.{eq-eqb, ne_eqb}
 pub appends_then : {A : Type 0} (r : Result A Refusal) (a m after bs cs : List ℕ) → m ≡ a ++ bs → Appends r m after cs → Appends r a after (bs ++ cs)
 appends_then (Ok x) a m after bs cs e h = h ∙ ap (λ l. l ++ cs) e ∙ append_assoc a bs cs
 appends_then (Err x) a m after bs cs e h = h
-
--- a file of a slot lies in it
-pub length_within : (n size : ℕ) → cond (leb n size) n 0 ≤ size
-length_within n size = grind (arith, nat_tests)
 
 joined_append : {X : Type 0} (f : X → List ℕ) (xs ys : List X) → flat_map f (xs ++ ys) ≡ flat_map f xs ++ flat_map f ys
 joined_append f [] ys = refl

@@ -1,5 +1,5 @@
 -- The numbers that lie ahead in bytes that are read.
-use Rattle.std.proofs.Common.{◌≡◌, ℕ, ◌+◌, ◌-◌, ◌^◌, ◌<◌, ◌≤◌, cond, eqb, ltb, List, length, take, drop, Some, None, Ok, Err, Result, sym, ap, ◌∙◌, arith}
+use Rattle.std.proofs.Common.{◌≡◌, ℕ, ◌+◌, ◌-◌, ◌^◌, ◌<◌, ◌≤◌, cond, eqb, ltb, List, length, take, drop, Some, Ok, Err, Result, sym, ap, ◌∙◌, arith}
 use Rattle.std.proofs.lemmas.Bool.{lt-ltb, le-ltb, ne_eqb}
 use Rattle.std.proofs.lemmas.Bool.Decides.{nat_tests}
 use Rattle.std.proofs.lemmas.List.{drop-drop, length-drop}
@@ -16,9 +16,6 @@ module _ (at ahead : ℕ) (bs : List ℕ) where
       let far : drop ahead (drop at bs) ≡ drop (at + ahead) bs = drop-drop ahead at bs in
       let told : (ahead + 8 ≤ length bs - at) × (w ≡ le (take 8 (drop ahead (drop at bs)))) = (grind (arith, nat_tests, e, long), grind (arith, nat_tests, e)) in
       (told.0, told.1 ∙ ap (λ l. le (take 8 l)) far)
-
-  pub word_cut : None ≡ word_from ahead (drop at bs) → length bs - at < ahead + 8
-  word_cut e = let long = length-drop at bs in grind (arith, nat_tests, e, long)
 
 -- where a file ends, by its number and its length
 module _ (most at : ℕ) (bs : List ℕ) (number long : ℕ) (a : Some number ≡ word_from 0 (drop at bs)) (b : Some long ≡ word_from 8 (drop at bs)) (free : number ≡ 2 ^ 64 - 1 → ⊥) where

@@ -1,5 +1,5 @@
 -- What is found, counted and listed of the slots of a directory, as of so many numbers of it.
-use Rattle.std.proofs.Common.{◌≡◌, ℕ, zero, suc, ◌+◌, ◌-◌, ◌*◌, ◌<◌, ◌≤◌, cond, eqb, ltb, List, [], ◌∷◌, ◌++◌, length, get_or, take, drop, Some, map, filter, count_by, sym, refl, ap, ◌∙◌, add-one, arith}
+use Rattle.std.proofs.Common.{◌≡◌, ℕ, zero, suc, ◌+◌, ◌-◌, ◌*◌, ◌<◌, ◌≤◌, cond, eqb, ltb, List, [], ◌∷◌, ◌++◌, get_or, take, drop, Some, map, filter, count_by, sym, refl, ap, ◌∙◌, add-one, arith}
 use Rattle.std.proofs.lemmas.Bool.{lt-ltb, ne_eqb}
 use Rattle.std.proofs.lemmas.List.{drop-drop, get_or-drop, get_or-take, map-append}
 use Rattle.std.proofs.lemmas.List.Elements.{filter-append}
@@ -8,10 +8,6 @@ use Rattle.std.proofs.lemmas.Iterator.Adapters.{position_from-zero}
 use Rattle.std.specs.List.{position, position_from}
 use Rattle.std.specs.Simd.{first_chunks}
 use Rattle.store.specs.Slots.{slots_in, is_marked, mark_at, length_at, first_from, slot_with, free_below, numbers_below}
-
-pub length-slots_in : (n : ℕ) (xs : List ℕ) → length (slots_in n xs) ≡ n
-length-slots_in zero xs = refl
-length-slots_in (suc n) xs = ap (λ k. suc k) (length-slots_in n (drop 2 xs))
 
 -- the first chunks of two numbers
 pub slots_of_chunks : (k n : ℕ) (xs : List ℕ) → k ≤ n → take k (first_chunks 2 n xs) ≡ slots_in k xs

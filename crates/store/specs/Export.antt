@@ -1,5 +1,5 @@
 -- The files and entries that a store's memory holds, and their bytes written out: a header, then each file, then each entry.
-use Rattle.std.specs.Prelude.{◌≡◌, ℕ, zero, suc, ◌-◌, cond, List, [], ◌∷◌, ◌++◌, length, Result, MatchResult, ◌==◌, nat_le}
+use Rattle.std.specs.Prelude.{◌≡◌, ℕ, zero, suc, ◌-◌, cond, List, [], ◌∷◌, ◌++◌, length, Result, MatchResult, ◌==◌}
 use Rattle.std.specs.List.{flat_map}
 use Rattle.rows.specs.Checks.{some_else}
 use Rattle.rows.specs.declared.refusal.Refusal.{Refusal}
@@ -9,14 +9,10 @@ use Rattle.codec.specs.Words.{bytes_of}
 use Rattle.store.specs.declared.header.Header.{Header}
 use Rattle.store.specs.Log.{Log, entry_bytes_at}
 use Rattle.store.specs.Putting.{Files}
-use Rattle.store.specs.Slots.{slot_size, slots, mark_at, length_at, slot_bytes}
+use Rattle.store.specs.Slots.{slots, mark_at, slot_bytes}
 
 abbrev pub slots_of : Files → ℕ
 slots_of s = slots s.most (length s.directory) (length s.bytes)
-
--- how many bytes of a slot its file has
-abbrev pub slot_length : ℕ → List ℕ → ℕ → ℕ
-slot_length most directory i = cond (nat_le (length_at directory i) (slot_size most)) (length_at directory i) 0
 
 -- the file of a slot, if it is not free
 abbrev pub file_of_slot : Files → ℕ → List (ℕ × List ℕ)

@@ -17,7 +17,7 @@ mod reader;
 pub mod unput;
 pub mod unread;
 
-// What a store owns: its numbers. The four slices that hold files and entries go beside it.
+// What a store owns: its numbers. The memory that holds files and entries goes beside it.
 #[derive(Clone, Copy)]
 pub struct Store {
     horizon: u64,

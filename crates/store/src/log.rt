@@ -65,10 +65,8 @@ impl<'a> LogMemory<'a> {
     fn bytes_left(self, count: usize) -> u64
         ensures { result ≡ bytes_left self.entry.ends.now (length self.entry.bytes.now) count }
     {
-        match self.end_of(count) {
-            Some(end) => (self.bytes.len() as u64).saturating_sub(end),
-            None => 0,
-        }
+        self.end_of(count)
+            .map_or(0, |end| (self.bytes.len() as u64).saturating_sub(end))
     }
 }
 

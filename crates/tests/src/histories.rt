@@ -9,7 +9,7 @@ use std::alloc::{AllocError, Global};
 use std::process::Abort;
 use std::test::Fail;
 use store::Store;
-use store::memory::{FileMemoryMut, LogMemory, LogMemoryMut};
+use store::memory::{FileMemory, FileMemoryMut, LogMemory, LogMemoryMut};
 use versions::history::History;
 use versions::kept::is_kept;
 use versions::preview::files_in_span;
@@ -248,26 +248,43 @@ fn rows_are_read_of_versions_that_are_kept(rt: HostRuntime) -> Result<(), Fail> 
 #[test]
 fn what_is_damaged_is_told_in_its_order(rt: HostRuntime) -> Result<(), Fail> {
     let heap = rt.alloc();
-    let mut memory = Memory::new();
+    let Memory {
+        mut directory,
+        files: mut file_bytes,
+        mut ends,
+        log: mut log_bytes,
+    } = Memory::new();
     let mut files = FileMemoryMut {
-        directory: &mut memory.directory,
-        bytes: &mut memory.files,
+        directory: &mut directory,
+        bytes: &mut file_bytes,
     };
     let mut log = LogMemoryMut {
-        ends: &mut memory.ends,
-        bytes: &mut memory.log,
+        ends: &mut ends,
+        bytes: &mut log_bytes,
     };
     let store = filled(&rt, heap, &mut files, &mut log)?;
-    store.delete(files.directory, &files.bytes[..], 2);
-    let missing = read_version(heap, &store, files.view(), log.view(), 3);
+    store.delete(&mut directory, &file_bytes, 2);
+    let left = FileMemory {
+        directory: &directory,
+        bytes: &file_bytes,
+    };
+    let whole = LogMemory {
+        ends: &ends,
+        bytes: &log_bytes,
+    };
+    let missing = read_version(heap, &store, left, whole, 3);
     assert_eq!(rt; missing.err(), Some(Refusal::DamagedFile(2)));
-    assert!(rt; read_version(heap, &store, files.view(), log.view(), 4).is_ok());
-    log.bytes[112] = 7;
+    assert!(rt; read_version(heap, &store, left, whole, 4).is_ok());
+    log_bytes[112] = 7;
+    let damaged = LogMemory {
+        ends: &ends,
+        bytes: &log_bytes,
+    };
     for version in [2, 3, 4, 5] {
-        let read = read_version(heap, &store, files.view(), log.view(), version);
+        let read = read_version(heap, &store, left, damaged, version);
         assert_eq!(rt; read.err(), Some(Refusal::DamagedEntry(1)));
     }
-    let above = read_version(heap, &store, files.view(), log.view(), 1);
+    let above = read_version(heap, &store, left, damaged, 1);
     assert_eq!(rt; above.err(), Some(Refusal::NoSuchVersion(1)));
     Ok(())
 }

@@ -1,4 +1,9 @@
 // Stores: full slots, deleted files, entries of the log, and memory that is damaged.
+ghost use Rattle.std.specs.Prelude.{◌≡◌};
+ghost use Rattle.codec.specs.Entries.{entry_of};
+ghost use Rattle.store.specs.Log.{log_of, put_entry};
+ghost use Rattle.store.specs.Putting.{files_of, put_rows};
+
 use crate::given::span;
 use codec::action::Action;
 use codec::entry::{Added, Change, Entry};
@@ -50,13 +55,15 @@ fn log_in<'a>(ends: &'a [u64], bytes: &'a [u8]) -> LogMemory<'a> {
     LogMemory { ends, bytes }
 }
 
-// Puts a file of lent rows, whose writer began at version 7.
+// Puts a file of lent rows, whose writer began at version 7. What is promised of lent memory is promised of the slices that it was lent from.
 fn put_rows(
     store: &mut Store,
     directory: &mut [u64],
     bytes: &mut [u8],
     lent: &[u64],
-) -> Result<Added, Unput> {
+) -> Result<Added, Unput>
+    ensures { (result, files_of store.new directory.new bytes.new) ≡ put_rows 7 lent.now (files_of store.old directory.old bytes.old) }
+{
     store.put_rows(&mut FileMemoryMut { directory, bytes }, 7, lent)
 }
 
@@ -80,7 +87,9 @@ fn put_entry(
     ends: &mut [u64],
     bytes: &mut [u8],
     entry: &Entry,
-) -> Result<u64, Unput> {
+) -> Result<u64, Unput>
+    ensures { (result, log_of store.new ends.new bytes.new) ≡ put_entry (entry_of entry.now) (log_of store.old ends.old bytes.old) }
+{
     store.put_entry(&mut LogMemoryMut { ends, bytes }, entry)
 }
 

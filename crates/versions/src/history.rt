@@ -31,6 +31,7 @@ impl History {
         // By place: entries lie in lent bytes, and each is opened for itself.
         for place in 0..version.min(store.entries()) {
             let Some(entry) = store.entry(heap, log, place)? else {
+                // A log has 65,536 entries at most.
                 return Err(Refusal::DamagedEntry(place as u32));
             };
             entries.push(entry)?;

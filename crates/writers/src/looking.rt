@@ -45,10 +45,11 @@ fn conflict_since(
 {
     let taken = set_of(heap, &mine.takes)?;
     let span = span_of(mine.action);
-    // The loops over entries and their files are left by a label.
+    // Places are counted, since entries lie in lent bytes; the loops over entries and their files are left by a label.
     let found = 'search: {
         for place in looked..store.entries() {
             let Some(entry) = store.entry(heap, log, place)? else {
+                // A log has 65,536 entries at most.
                 return Err(Refusal::DamagedEntry(place as u32));
             };
             for number in &entry.change.takes {

@@ -1,5 +1,6 @@
 // Putting an entry, and stopping.
 ghost use Rattle.std.specs.Prelude.{◌≡◌, ℕ, List};
+ghost use Rattle.store.specs.Memory.{LendsSameLog};
 ghost use Rattle.writers.specs.Answers.{told_of};
 ghost use Rattle.writers.specs.Deeds.{stop_done, put_done};
 ghost use Rattle.writers.specs.Memory.{memory_of};
@@ -11,7 +12,6 @@ use crate::writer::Writer;
 use rows::refusal::{LOG_LIMIT, Refusal};
 use store::memory::LogMemoryMut;
 
-// Why an entry is not put, as a deed tells it.
 impl Table {
     // The writer is idle, whatever it was.
     pub fn stop(&mut self, writer: u64) -> Result<Answer, Refusal>
@@ -24,7 +24,8 @@ impl Table {
 
     // Puts the entry of a writer that has looked up to the newest version behind the others, and tells its count. Where it is not put, nothing changes.
     pub fn put(&mut self, log: &mut LogMemoryMut<'_>, writer: u64) -> Result<Answer, Refusal>
-        ensures { (d fs : List ℕ) → (told_of result, memory_of self.new d fs log.new.ends.now log.new.bytes.now) ≡ put_done writer (memory_of self.old d fs log.old.ends.now log.old.bytes.now) }
+        ensures put { (d fs : List ℕ) → (told_of result, memory_of self.new d fs log.new.ends.now log.new.bytes.now) ≡ put_done writer (memory_of self.old d fs log.old.ends.now log.old.bytes.now) }
+        ensures lent { LendsSameLog log.old log.new }
     {
         let index = index_of(writer)?;
         let Writer::Ready(draft) = &mut self.writers[index] else {
@@ -38,6 +39,7 @@ impl Table {
         if entry.place != newest {
             return Ok(Answer::NotYet);
         }
+        // Below 16, as `index_of` has asked.
         entry.writer = index as u8;
         let touched = entry.change.touched;
         self.store.put_entry(log, entry)?;

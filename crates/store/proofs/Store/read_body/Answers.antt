@@ -29,7 +29,7 @@ pub returns-then-end-bytes : goal.returns-then-end-bytes
 returns-then-end-bytes c =
     record {
       read = body_longer c.args.bytes.now c.read_files.new.files.directory.now c.read_files.new.files.bytes.now c.in_ok-end.end.at c.read_entries.new.log.ends.now c.read_entries.new.log.bytes.now c.if-end-bytes.true
-        ∙ body_by c.args.self.now.most_rows c.args.bytes.now c.args.held c.args.self.now.entries c.args.files.now.directory.now c.args.files.now.bytes.now c.args.log.now.ends.now c.args.log.now.bytes.now c.fill.new.self c.in_ok-behind.behind.at c.read_files.new.files.directory.now c.read_files.new.files.bytes.now (Ok c.in_ok-end.end.at, c.read_entries.new.log.ends.now, c.read_entries.new.log.bytes.now) (c.fill.ensures.after (λ y e. e)) c.in_ok-behind.ensures.read (c.in_ok-end.ensures.read ∙ ap (λ bs. entries_read bs c.args.self.now.entries 0 c.in_ok-behind.behind.at 0 c.args.log.now.ends.now c.args.log.now.bytes.now) c.in_ok-behind.ensures.bytes);
+          ∙ body_by c.args.self.now.most_rows c.args.bytes.now c.args.held c.args.self.now.entries c.args.files.now.directory.now c.args.files.now.bytes.now c.args.log.now.ends.now c.args.log.now.bytes.now c.fill.new.self c.in_ok-behind.behind.at c.read_files.new.files.directory.now c.read_files.new.files.bytes.now (Ok c.in_ok-end.end.at, c.read_entries.new.log.ends.now, c.read_entries.new.log.bytes.now) (c.fill.ensures.after (λ y e. e)) c.in_ok-behind.ensures.read (c.in_ok-end.ensures.read ∙ ap (λ bs. entries_read bs c.args.self.now.entries 0 c.in_ok-behind.behind.at 0 c.args.log.now.ends.now c.args.log.now.bytes.now) c.in_ok-behind.ensures.bytes);
       files = c.in_ok-behind.ensures.lent;
       log = c.in_ok-end.ensures.lent;
     }
@@ -38,7 +38,7 @@ pub returns : goal.returns
 returns c =
     record {
       read = body_whole c.args.bytes.now c.read_files.new.files.directory.now c.read_files.new.files.bytes.now c.in_ok-end.end.at c.read_entries.new.log.ends.now c.read_entries.new.log.bytes.now (omega (arith, c.if-end-bytes.false))
-        ∙ body_by c.args.self.now.most_rows c.args.bytes.now c.args.held c.args.self.now.entries c.args.files.now.directory.now c.args.files.now.bytes.now c.args.log.now.ends.now c.args.log.now.bytes.now c.fill.new.self c.in_ok-behind.behind.at c.read_files.new.files.directory.now c.read_files.new.files.bytes.now (Ok c.in_ok-end.end.at, c.read_entries.new.log.ends.now, c.read_entries.new.log.bytes.now) (c.fill.ensures.after (λ y e. e)) c.in_ok-behind.ensures.read (c.in_ok-end.ensures.read ∙ ap (λ bs. entries_read bs c.args.self.now.entries 0 c.in_ok-behind.behind.at 0 c.args.log.now.ends.now c.args.log.now.bytes.now) c.in_ok-behind.ensures.bytes);
+          ∙ body_by c.args.self.now.most_rows c.args.bytes.now c.args.held c.args.self.now.entries c.args.files.now.directory.now c.args.files.now.bytes.now c.args.log.now.ends.now c.args.log.now.bytes.now c.fill.new.self c.in_ok-behind.behind.at c.read_files.new.files.directory.now c.read_files.new.files.bytes.now (Ok c.in_ok-end.end.at, c.read_entries.new.log.ends.now, c.read_entries.new.log.bytes.now) (c.fill.ensures.after (λ y e. e)) c.in_ok-behind.ensures.read (c.in_ok-end.ensures.read ∙ ap (λ bs. entries_read bs c.args.self.now.entries 0 c.in_ok-behind.behind.at 0 c.args.log.now.ends.now c.args.log.now.bytes.now) c.in_ok-behind.ensures.bytes);
       files = c.in_ok-behind.ensures.lent;
       log = c.in_ok-end.ensures.lent;
     }

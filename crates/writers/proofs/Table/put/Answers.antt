@@ -11,13 +11,13 @@ use Rattle.writers.proofs.DeskLaws.{Found, found_there, found_held, found_still,
 use Rattle.writers.proofs.DeedLaws.{put_nobody, put_idle, put_full, put_not_yet, put_tried}
 use Rattle.writers.proofs.Table.put.Goals as goal
 
-pub returns-in_err-index : goal.returns-in_err-index
-returns-in_err-index c d fs =
+pub returns-in_err-index-clause-put : goal.returns-in_err-index-clause-put
+returns-in_err-index-clause-put c d fs =
     let p = err_from_is_err_and c.from_residual.result c.from_residual.ensures.1 in
     rw (p.1, p.2, c.in_err-index.ensures.0) (put_nobody c.args.writer (memory_of c.args.self.now d fs c.args.log.now.ends.now c.args.log.now.bytes.now) c.in_err-index.ensures.1)
 
-pub returns-in_default : goal.returns-in_default
-returns-in_default c d fs =
+pub returns-in_default-clause-put : goal.returns-in_default-clause-put
+returns-in_default-clause-put c d fs =
     let t = c.args.self.now in
     let w = c.args.writer in
     let es = c.args.log.now.ends.now in
@@ -26,8 +26,8 @@ returns-in_default c d fs =
     let f : Found t w c.in_ok-index.index c.index-self-index.result Idle = record { at = c.in_ok-index.ensures.0; below = c.in_ok-index.ensures.1; within = search rules; read = c.in_default.is } in
     ap (λ (m : Memory). (refused (IdleWriter w), m)) (memory_still f d fs es l _ (ap held_by c.in_default.is)) ∙ put_idle w (memory_of t d fs es l) (found_there f) (found_held f)
 
-pub returns-then-newest-ge-LOG_LIMIT : goal.returns-then-newest-ge-LOG_LIMIT
-returns-then-newest-ge-LOG_LIMIT c d fs =
+pub returns-then-newest-ge-LOG_LIMIT-clause-put : goal.returns-then-newest-ge-LOG_LIMIT-clause-put
+returns-then-newest-ge-LOG_LIMIT-clause-put c d fs =
     let t = c.args.self.now in
     let w = c.args.writer in
     let es = c.args.log.now.ends.now in
@@ -38,8 +38,8 @@ returns-then-newest-ge-LOG_LIMIT c d fs =
     ap (λ (m : Memory). (refused LogFull, m)) (memory_still f d fs es l (Ready draft) refl)
     ∙ put_full w (memory_of t d fs es l) (found_there f) p (found_held f) (omega (arith, c.if-newest-ge-LOG_LIMIT.true, c.entries-newest.ensures))
 
-pub returns-then-entry-newest : goal.returns-then-entry-newest
-returns-then-entry-newest c d fs =
+pub returns-then-entry-newest-clause-put : goal.returns-then-entry-newest-clause-put
+returns-then-entry-newest-clause-put c d fs =
     let t = c.args.self.now in
     let w = c.args.writer in
     let es = c.args.log.now.ends.now in
@@ -50,8 +50,8 @@ returns-then-entry-newest c d fs =
     ap (λ (m : Memory). (not_yet, m)) (memory_still f d fs es l (Ready draft) refl)
     ∙ put_not_yet w (memory_of t d fs es l) (found_there f) p (found_held f) (omega (arith, c.if-newest-ge-LOG_LIMIT.false, c.entries-newest.ensures)) (λ e. c.if-entry-newest.true (e ∙ sym c.entries-newest.ensures))
 
-pub returns-in_err-put_entry : goal.returns-in_err-put_entry
-returns-in_err-put_entry c d fs =
+pub returns-in_err-put_entry-clause-put : goal.returns-in_err-put_entry-clause-put
+returns-in_err-put_entry-clause-put c d fs =
     let t = c.args.self.now in
     let w = c.args.writer in
     let es = c.args.log.now.ends.now in
@@ -73,8 +73,8 @@ returns-in_err-put_entry c d fs =
     rw (q.1, q.2) ((λ j. (refused (unput_refusal c.in_err-put_entry.field-0.0), record { horizon = kept.0 j; files = files j; log = logs j; writers = found_still f mine refl j }))
     ∙ put_tried w (memory_of t d fs es l) (found_there f) p (found_held f) room _ newest put)
 
-pub returns : goal.returns
-returns c d fs =
+pub returns-clause-put : goal.returns-clause-put
+returns-clause-put c d fs =
     let t = c.args.self.now in
     let w = c.args.writer in
     let es = c.args.log.now.ends.now in
