@@ -10,7 +10,7 @@ use crate::seal::unseal;
 use crate::words::{Word, number};
 use rows::row::{AMOUNT_LIMIT, Row};
 
-// The most rows of a file.
+// The most rows of a file. That a log takes as many entries is chance: each may change for itself.
 pub const MOST_ROWS: usize = 65536;
 
 // A file but for its rows: its number, the version at which its writer began, and how many rows it has.

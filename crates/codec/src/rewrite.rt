@@ -58,7 +58,7 @@ impl Rewrite {
         self.fate(row)?
     }
 
-    // How many rows of a file stay; none where the bytes are no file or an amount would be too large.
+    // How many rows of a file stay; none where the bytes are no file or an amount would be too large, at which the loop is left.
     fn count_staying(self, bytes: &[u8]) -> Option<usize>
         ensures { result ≡ survey self (is_some (file_in bytes.now)) (rows_in bytes.now) }
     {
@@ -72,7 +72,7 @@ impl Rewrite {
         Some(count)
     }
 
-    // Writes the rows of a file that stay behind those that were written.
+    // Writes the rows of a file that stay behind those that were written. Only these are counted, and count, keys and place grow together.
     fn put_rows(self, bytes: &[u8], start: Progress, out: &mut [u8]) -> Progress
         requires room { 8 * (4 + 2 * (start.count + length (rewritten self (rows_from bytes.now)))) ≤ length out.old }
         ensures after { out.new ≡ put_at (8 * (3 + 2 * start.count)) (bytes_of (row_words (rewritten self (rows_from bytes.now)))) out.old }

@@ -71,7 +71,7 @@ impl Store {
         Ok(self.fill_slot(memory.directory, slot, written))
     }
 
-    // Puts a file of the rows of others that lie in the same file bytes. Where it cannot be put, nothing changes.
+    // Puts a file of the rows of others that lie in the same file bytes. Where it cannot be put, nothing changes. Unlike `put_rows` it lends on all of the bytes.
     pub fn put_rewritten(
         &mut self,
         memory: &mut FileMemoryMut<'_>,

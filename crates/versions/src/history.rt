@@ -31,7 +31,7 @@ impl History {
         // By place: entries lie in lent bytes, and each is opened for itself.
         for place in 0..version.min(store.entries()) {
             let Some(entry) = store.entry(heap, log, place)? else {
-                // A log has 65,536 entries at most.
+                // A log has 65,536 entries at most. One look-up for this and for looks would have to ask that of its callers.
                 return Err(Refusal::DamagedEntry(place as u32));
             };
             entries.push(entry)?;
