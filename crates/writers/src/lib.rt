@@ -9,6 +9,7 @@ pub mod answer;
 mod desk;
 pub mod laws;
 mod looking;
+mod opening;
 mod putting;
 mod reading;
 pub mod writer;
