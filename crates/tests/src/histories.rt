@@ -323,3 +323,15 @@ fn numbers_are_a_set(rt: HostRuntime) -> Result<(), Fail> {
     assert!(rt; set.contains(&3) && set.contains(&5) && !set.contains(&4));
     Ok(())
 }
+
+#[test]
+fn many_numbers_are_a_set(rt: HostRuntime) -> Result<(), Fail> {
+    let mut numbers = Vec::new(rt.alloc());
+    for i in 0..15_000u32 {
+        numbers.push(i % 5_000)?;
+    }
+    let set = set_of(rt.alloc(), &numbers)?;
+    assert_eq!(rt; set.len(), 5_000);
+    assert!(rt; set.contains(&0) && set.contains(&4_999) && !set.contains(&5_000));
+    Ok(())
+}
