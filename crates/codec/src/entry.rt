@@ -11,7 +11,7 @@ ghost use Rattle.codec.specs.Entries.{added_of, added_fits, count_with, files_wr
 
 use crate::action::Action;
 use crate::seal::{put_seal, unseal};
-use crate::words::{Word, number, put_words};
+use crate::words::{Word, narrow, number, put_words};
 use rows::refusal::Refusal;
 use rows::span::Span;
 use std::alloc::{AllocError, Global};
@@ -204,10 +204,10 @@ fn added_from(number: u64, from: u64, to: u64) -> Option<Added>
     ensures { result ≡ (if added_fits (added_of number from to) then Some (added_of number from to) else None) }
 {
     let added = Added {
-        number: u32::try_from(number).ok()?,
+        number: narrow(number)?,
         keys: Span {
-            from: u32::try_from(from).ok()?,
-            to: u32::try_from(to).ok()?,
+            from: narrow(from)?,
+            to: narrow(to)?,
         },
     };
     added.fits().then_some(added)
