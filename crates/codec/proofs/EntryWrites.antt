@@ -1,6 +1,6 @@
 -- What writing an entry leaves.
-use Rattle.std.proofs.Common.{◌≡◌, ℕ, ◌+◌, ◌*◌, ◌%◌, ◌^◌, ◌<◌, ◌≤◌, Bool, true, false, cond, ltb, List, [], ◌∷◌, ◌++◌, length, get_or, take, Some, None, sum, Option, sym, refl, ap, ◌∙◌, arith}
-use Rattle.std.proofs.lemmas.List.{append_assoc, length-append, length-take-le, take_more}
+use Rattle.std.proofs.Common.{◌≡◌, ℕ, ◌+◌, ◌*◌, ◌%◌, ◌^◌, ◌<◌, ◌≤◌, Bool, true, false, cond, ltb, List, [], ◌∷◌, ◌++◌, length, get_or, take, drop, Some, None, sum, Option, sym, refl, ap, ◌∙◌, arith}
+use Rattle.std.proofs.lemmas.List.{append_assoc, length-append, length-take-le, take_at, take_more}
 use Rattle.std.proofs.lemmas.Bool.{and_from, and_left, and_right, and_parts, cond-true, cond-false, le-ltb, lt-ltb, ltb-true}
 use Rattle.std.proofs.lemmas.Bool.Decides.{nat_tests}
 use Rattle.codec.specs.declared.action.Action.{Action}
@@ -10,11 +10,12 @@ use Rattle.codec.specs.declared.entry.Front.{Front}
 use Rattle.codec.specs.Bounds.{is_key, is_word, every}
 use Rattle.codec.specs.Actions.{action_words, action_fits}
 use Rattle.codec.specs.Words.{words_of, put_at, bytes_of}
-use Rattle.codec.specs.Entries.{LogEntry, added_fits, files_fit, count_with, files_writable, entry_fits, added_words, change_head, entry_head, entry_words, entry_bytes, writable, front_of, entry_written}
+use Rattle.codec.specs.Seals.{written}
+use Rattle.codec.specs.Entries.{LogEntry, added_fits, files_fit, count_with, files_writable, entry_fits, added_words, change_head, entry_head, entry_words, entry_bytes, writable, front_of, entry_written, entry_in}
 use Rattle.codec.proofs.WordLaws.{put_on}
-use Rattle.codec.proofs.SealLaws.{cond_some, length_sealed_bytes, seal_done, written_done, written_not}
+use Rattle.codec.proofs.SealLaws.{cond_some, length_sealed_bytes, seal_done, written_done, written_not, written_some}
 use Rattle.codec.proofs.EntryFiles.{length_added_words, added_words_append}
-use Rattle.codec.proofs.EntryLaws.{entry_fits_words}
+use Rattle.codec.proofs.EntryLaws.{entry_fits_words, come_back}
 
 -- how long an entry is
 length_action_words : (o : Action) → length (action_words o) ≡ 4
@@ -152,3 +153,19 @@ module _ (e : LogEntry) (f : Front) (front : Written e f) where
       let fit = and_parts (entry_fits e) _ front.can in
       let g5 = seal_done (entry_words e) xs three four f.count (count ∙ sym (length_entry_words e)) (omega arith) (entry_fits_words e fit.0) g4 e4 in
       written_done (entry_bytes e) xs four (8 * (f.count + 1)) (omega arith) lb g5 ∙ sym (cond-true (writable e) _ _ front.can)
+
+-- an entry that was written was in its bounds, and reads again
+pub entry_read_back : (e : LogEntry) (xs cur : List ℕ) (n : ℕ) → ◌≡◌ {A = Option ℕ × List ℕ} (Some n, cur) (entry_written e xs)
+    → (entry_fits e ≡ true) × (n ≡ length (entry_bytes e)) × (cur ≡ entry_bytes e ++ drop (length (entry_bytes e)) xs) × (entry_in (take n cur) ≡ Some e)
+unfolding writable
+entry_read_back e xs cur n f = go (writable e) refl f
+  where
+    go : (b : Bool) → writable e ≡ b → ◌≡◌ {A = Option ℕ × List ℕ} (Some n, cur) (cond b (written (entry_bytes e) xs) (None, xs))
+        → (entry_fits e ≡ true) × (n ≡ length (entry_bytes e)) × (cur ≡ entry_bytes e ++ drop (length (entry_bytes e)) xs) × (entry_in (take n cur) ≡ Some e)
+    go true w g =
+        let p = and_parts (entry_fits e) _ w in
+        let q = written_some (entry_bytes e) xs cur n g in
+        let rest = drop (length (entry_bytes e)) xs in
+        let front : take n cur ≡ entry_bytes e = ap (take n) q.2 ∙ take_at (entry_bytes e) rest n (sym q.1) in
+        (p.0, q.1, q.2, ap entry_in front ∙ come_back e p.0)
+    go false w g = absurd (let h : ◌≡◌ {A = Option ℕ} (Some n) None = ap (λ (p : Option ℕ × List ℕ). p.0) g in let z : ◌≡◌ {A = ℕ} 0 1 = cc in omega arith)

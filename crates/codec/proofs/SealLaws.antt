@@ -1,8 +1,8 @@
 -- The laws of numbers with their sum: what was sealed is found again, and only what was sealed is found.
-use Rattle.std.proofs.Common.{◌≡◌, ℕ, ◌+◌, ◌-◌, ◌*◌, ◌/◌, ◌%◌, ◌^◌, ◌<◌, ◌≤◌, Bool, true, false, cond, eqb, ltb, List, [], ◌∷◌, ◌++◌, length, get_or, take, Some, None, sum, Option, sym, refl, ap, ◌∙◌, subst, arith}
+use Rattle.std.proofs.Common.{◌≡◌, ℕ, ◌+◌, ◌-◌, ◌*◌, ◌/◌, ◌%◌, ◌^◌, ◌<◌, ◌≤◌, Bool, true, false, cond, eqb, ltb, leb, List, [], ◌∷◌, ◌++◌, length, get_or, take, drop, Some, None, sum, Option, sym, refl, ap, ◌∙◌, subst, arith}
 use Rattle.std.proofs.lemmas.List.{append-nil, length-take-le, length_push, get_or_push, map_push, take_at, take_more, take_all}
 use Rattle.std.proofs.ByRecursion.{All-push, All-take}
-use Rattle.std.proofs.lemmas.Bool.{ne_eqb, eq-eqb, le-ltb, lt-ltb, and_parts, eqb-true, ltb-true, le-leb, lt-leb}
+use Rattle.std.proofs.lemmas.Bool.{ne_eqb, eq-eqb, le-ltb, lt-ltb, and_parts, eqb-true, ltb-true, leb-true, le-leb, lt-leb}
 use Rattle.std.specs.Simd.{first_chunks}
 use Rattle.codec.specs.Words.{AreBytes, AreWords, le, numbers, put_at, words, words_of, bytes_of}
 use Rattle.codec.specs.Seals.{sealed, sealed_bytes, unsealed, written}
@@ -111,3 +111,11 @@ written_done bs xs cur r h e f = rw (le-leb (length bs) (length xs) h, e, f, put
 
 pub written_not : (bs xs : List ℕ) → length xs < length bs → ◌≡◌ {A = Option ℕ × List ℕ} (None, xs) (written bs xs)
 written_not bs xs h = rw (lt-leb (length bs) (length xs) h)
+
+pub written_some : (bs xs cur : List ℕ) (n : ℕ) → ◌≡◌ {A = Option ℕ × List ℕ} (Some n, cur) (written bs xs) → (length bs ≤ length xs) × (n ≡ length bs) × (cur ≡ bs ++ drop (length bs) xs)
+written_some bs xs cur n e = go (leb (length bs) (length xs)) refl (ap (λ (p : Option ℕ × List ℕ). p.0) e) (ap (λ (p : Option ℕ × List ℕ). p.1) e)
+  where
+    go : (b : Bool) → leb (length bs) (length xs) ≡ b → Some n ≡ (cond {A = Option ℕ × List ℕ} b (Some (length bs), bs ++ drop (length bs) xs) (None, xs)).0 → cur ≡ (cond {A = Option ℕ × List ℕ} b (Some (length bs), bs ++ drop (length bs) xs) (None, xs)).1
+        → (length bs ≤ length xs) × (n ≡ length bs) × (cur ≡ bs ++ drop (length bs) xs)
+    go true t f g = (leb-true (length bs) (length xs) t, cc, g)
+    go false t f g = absurd (let z : ◌≡◌ {A = ℕ} 0 1 = cc in omega arith)

@@ -109,6 +109,10 @@ pub alike_append : (xs xs' ys ys' : List Row) → Alike xs xs' → Alike ys ys' 
 unfolding Alike
 alike_append xs xs' ys ys' h k r = omega (arith, times_append r xs ys, times_append r xs' ys', h r, k r)
 
+pub alike_swap : (xs ys : List Row) → Alike (xs ++ ys) (ys ++ xs)
+unfolding Alike
+alike_swap xs ys r = omega (arith, times_append r xs ys, times_append r ys xs)
+
 -- whatever is counted of each row comes to the same for rows alike
 pub sum_alike : (f : Row → ℕ) (xs ys : List Row) → Alike xs ys → sum_by f xs ≡ sum_by f ys
 unfolding Alike times
