@@ -232,7 +232,7 @@ fn read_takes(heap: Global, words: &[Word]) -> Result<Option<Vec<u32>>, AllocErr
 {
     let mut takes = Vec::new(heap);
     for word in words {
-        let Ok(file) = u32::try_from(number(word)) else {
+        let Some(file) = narrow(number(word)) else {
             return Ok(None);
         };
         takes.push(file)?;

@@ -13,7 +13,7 @@ pub(crate) fn number(word: &Word) -> u64
     u64::from_le_bytes(*word)
 }
 
-// A number as 32 bits; none where it is 2^32 or more. With `u32::try_from` for added files `read_entry` takes about a fifth longer.
+// A number as 32 bits; none where it is 2^32 or more. With `u32::try_from` in its place `read_entry` takes about a fifth longer.
 pub(crate) fn narrow(number: u64) -> Option<u32>
     ensures { result ≡ (if is_key number then Some number else None) }
 {
